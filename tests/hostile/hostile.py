@@ -1,8 +1,8 @@
 #!/usr/bin/env python3
 """Days that are made to go wrong, tried on all programs, and judged by a second machine.
 
-    .ci/hostile [KIND] [jobs=N] [seconds=N] FIRST COUNT RTGS [DAY_CHAIN [DURABLE_DAY [LIQUIDITY_VIEW [DAY_PAGE [LIVE_DAY]]]]]
-    .ci/hostile [KIND] FIRST                  prints the day of this number, before reservations
+    tests/hostile/hostile.py [KIND] [jobs=N] [seconds=N] FIRST COUNT rtgs=PATH [NAME=PATH..]    tries these programs
+    tests/hostile/hostile.py [KIND] FIRST                 prints the day of this number, before reservations
 
 A number makes the same day on every machine. KIND is `small` (what is taken where none is said), `large`, `aimed`, `edges` or
 `chains`. The days aim at edges: all procedures on one account, amounts that are a cent more or less than what an account or a fund
@@ -25,7 +25,7 @@ as it comes in (of at most 500 messages), and after a break. Last the day is cha
 all programs alike with the record and code of the second machine, and as a live day it goes on; so it does with up to five changes
 behind its first message.
 The kind `chains` is another one: each number is a chain of twelve days over one setup, with the stories of `aimed` or `edges`, which
-DAY_CHAIN alone settles at one go; so days are many and cheap.
+day_chain alone settles at one go; so days are many and cheap.
 The last line is 'N days, M failed', or, of chains, how many of these.
 """
 import collections
@@ -35,10 +35,10 @@ import sys
 import time
 
 sys.dont_write_bytecode = True
-sys.path.insert(0, os.path.dirname(os.path.abspath(__file__)))
+sys.path.insert(0, os.path.dirname(os.path.dirname(os.path.abspath(__file__))) + "/machines")
 import live_machine as live
 import second_machine as second
-from running import CHAIN, LIVE, NAMES, PAGE, RTGS, STORE, VIEW, Runs
+from running import CHAIN, LIVE, PAGE, RTGS, STORE, VIEW, Runs, builds_of
 
 LETTERS = "ABCDE"
 WORDS = "END DAY OK J S M B ACC DCA TEC FND SUB N H Y START PAY A 0 1".split()
@@ -879,20 +879,20 @@ class Wrong(Exception):
 
 class Trying:
     def __init__(self, programs):
-        self.runs, self.has = Runs(programs), len(programs)
+        self.runs, self.has = Runs(programs), programs
         self.days, self.lines, self.sorts = 0, 0, collections.Counter()
 
     def must(self, program, words, given, status, lines):
         """A run that is to end so and to write just these lines, or these bytes. Nothing is run of a program that isn't given."""
-        if program >= self.has:
+        if program not in self.has:
             return
         wanted = lines if isinstance(lines, bytes) else plainly(lines)
         ended = self.runs.run(program, words.split(), given, seconds=300)
-        self.sorts[f"{NAMES[program]} {words.split()[0] if words else ''}".strip()] += 1
+        self.sorts[f"{program} {words.split()[0] if words else ''}".strip()] += 1
         if (ended.status, ended.text) != (status, wanted):
             said, meant = ended.text.split(b"\n"), wanted.split(b"\n")
             at = next((i for i, (a, b) in enumerate(zip(said, meant)) if a != b), min(len(said), len(meant)))
-            raise Wrong(f"{NAMES[program]} {words}: status {ended.status}, and not {status}; line {at + 1} is {said[at:at + 1]}, and not {meant[at:at + 1]}")
+            raise Wrong(f"{program} {words}: status {ended.status}, and not {status}; line {at + 1} is {said[at:at + 1]}, and not {meant[at:at + 1]}")
 
     def settled(self, rows, number, kind):
         """A day: all that the programs say of it."""
@@ -976,7 +976,7 @@ class Trying:
             first, last = chance.of([(1, 9999999), (1, 9999999), (chance.below(count + 2), chance.below(count + 2))])
             shown = [line for line in figures.lines if first <= int(line.split(";")[1]) <= last]
             self.must(VIEW, f"view {name} {first} {last}", given, 0, shown + [f"OK;{count}"])
-        if self.has > PAGE:
+        if PAGE in self.has:
             party = chance.of([None, name])
             ended = self.runs.run(PAGE, ["page", party] if party else ["page"], given, seconds=300)
             self.sorts["day_page page"] += 1
@@ -986,7 +986,7 @@ class Trying:
 
     def on_disk(self, given, day, chance):
         """A run on a disk that is cut somewhere, with other bytes behind its closed gate, gone on with, cut again, and shown."""
-        if self.has <= STORE or len(day.messages) > 500:
+        if STORE not in self.has or len(day.messages) > 500:
             return
         machine = second.stored(day)
         calls = chance.below(4 * len(machine.lines) + 6)
@@ -1005,7 +1005,7 @@ class Trying:
 
     def in_a_chain(self, rows, day, machine, chance):
         """The day, the same orders on the next open days with what was held, and something that may not join."""
-        if self.has <= CHAIN:
+        if CHAIN not in self.has:
             return
         text, last, held = plainly(rows), day, machine.held
         for _ in range(chance.below(3)):
@@ -1020,7 +1020,7 @@ class Trying:
 
     def lived(self, given, day, chance):
         """The day record by record, and after a break somewhere, with what was told cut somewhere, or another text."""
-        if self.has <= LIVE or day and len(day.messages) > 500:
+        if LIVE not in self.has or day and len(day.messages) > 500:
             return
         status, text = live.live_text(given)
         self.must(LIVE, "run", given, status, text)
@@ -1171,11 +1171,12 @@ def main(words):
     if len(words) == 1 and words[0].isdigit():
         print("\n".join(day_of(int(words[0]), kind)))
         return 0
-    if not 3 <= len(words) <= 8 or not (words[0].isdigit() and words[1].isdigit()):
+    builds = builds_of(words[2:], [CHAIN if kind == "chains" else RTGS])
+    if not builds or not (words[0].isdigit() and words[1].isdigit()):
         print(__doc__)
         return 2
     first, count = int(words[0]), int(words[1])
-    work = [(words[2:], range(first + job, first + count, jobs), kind, until) for job in range(jobs)]
+    work = [(builds, range(first + job, first + count, jobs), kind, until) for job in range(jobs)]
     with concurrent.futures.ProcessPoolExecutor(jobs) as pool:
         done = list(pool.map(try_days, work))
     sorts = sum((counts for *_, counts, _ in done), collections.Counter())

@@ -1,7 +1,7 @@
 #!/usr/bin/env python3
 """What a crash may leave of a store, tried on the program of a day on a disk.
 
-    .ci/crashes PROGRAM
+    tests/crashes/crashes.py PATH
 
 Of two days, one of ten lines and one of 105, the run is cut at every call of the disk. Behind each cut stands each of these images
 of what was being written: of one byte all 256; of a longer range the old bytes, the new ones, zeros, ones, and the new ones cut

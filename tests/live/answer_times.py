@@ -1,7 +1,7 @@
 #!/usr/bin/env python3
 """How long a live day's answers take: of each message the time from the moment at which it is sent until all that is told of it is read.
 
-    .ci/answer_times LIVE_DAY DAY [RUNS]
+    tests/live/answer_times.py LIVE_DAY DAY [RUNS]
 
 The day, of which no record may be bad, is settled once from a file; that says how many bytes each message is answered with. Then its
 messages are sent through a pipe one after the other, each once the answer to the one before it is there, batches with their entries in
@@ -18,7 +18,7 @@ import sys
 import time
 
 sys.dont_write_bytecode = True
-sys.path.insert(0, os.path.dirname(os.path.abspath(__file__)))
+sys.path.insert(0, os.path.dirname(os.path.dirname(os.path.abspath(__file__))) + "/machines")
 from running import left_in, sleeps
 
 MESSAGES = (b"PAY", b"BAT", b"LIQ", b"OBJ", b"CNF", b"CYC")

@@ -9,17 +9,23 @@ import select
 import struct
 import termios
 
-NAMES = ("rtgs", "day_chain", "durable_day", "liquidity_view", "day_page", "live_day")
-RTGS, CHAIN, STORE, VIEW, PAGE, LIVE = range(6)
+# The programs by their names, and as words NAME=PATH the builds of them that are to be tried.
+RTGS, CHAIN, STORE, VIEW, PAGE, LIVE, GATE = NAMES = ("rtgs", "day_chain", "durable_day", "liquidity_view", "day_page", "live_day", "party_gate")
 
 # A run hangs that has taken so many seconds of a processor, or fifteen times as many by the clock: a busy machine may leave it waiting.
 SECONDS, PATIENCE = 20, 15
 
-# What the library of .ci/faults is told to refuse, and what it counts.
+# What the library of faults.py is told to refuse, and what it counts.
 PLAN = ("read_at", "read_error", "read_most", "write_at", "write_error", "write_most", "memory_at", "memory_on", "thread_at", "thread_on", "read_lines")
 COUNTS = ("reads", "writes", "requests", "threads", "late_reads", "ends", "late_writes", "taken", "loaded", "given")
 FIRST_COUNT, SHARED = 16, 198
 Ended = collections.namedtuple("Ended", ("status", "text", *COUNTS))
+
+
+def builds_of(words, wanted=NAMES):
+    """The paths of the builds that words name, or None where a word is none or one that is wanted is not named."""
+    builds = dict(word.split("=", 1) for word in words if "=" in word)
+    return {name: os.path.abspath(path) for name, path in builds.items()} if len(builds) == len(words) and builds.keys() >= set(wanted) else None
 
 
 def used_by(number):
@@ -46,7 +52,7 @@ class Runs:
     """The status of a run is a number, below zero the signal that ended it, or `hangs`."""
 
     def __init__(self, programs, library=None):
-        self.programs, self.count = [os.path.abspath(program) for program in programs], 0
+        self.programs, self.count = programs, 0
         self.input, self.output, self.shared = (os.memfd_create(name) for name in ("input", "output", "shared"))
         self.nowhere = os.open(os.devnull, os.O_RDWR)
         os.ftruncate(self.shared, 4096)

@@ -1,8 +1,8 @@
 #!/usr/bin/env python3
 """Inputs below 1 MiB that take long: a small search over shapes.
 
-    .ci/costs RTGS DAY_CHAIN DURABLE_DAY LIQUIDITY_VIEW DAY_PAGE LIVE_DAY [SHAPE]    tries all shapes, or one
-    .ci/costs print SHAPE SHARE                                                      writes the day, or the chain, of a shape
+    tests/costs/costs.py [SHAPE..] NAME=PATH..        tries all shapes, or some, on the programs, of which each is to be named
+    tests/costs/costs.py print SHAPE SHARE            writes the day, or the chain, of a shape
 
 Each shape has two parts that cost together, and is made three times: the first part has a fifth, a half, or four fifths of the bytes.
 Of each day the programs settle, replay, view, draw, store, and settle it as it comes in. Other shapes are chains; live days with records
@@ -16,9 +16,9 @@ import sys
 import tempfile
 
 sys.dont_write_bytecode = True
-sys.path.insert(0, os.path.dirname(os.path.abspath(__file__)))
+sys.path.insert(0, os.path.dirname(os.path.dirname(os.path.abspath(__file__))) + "/machines")
 import second_machine as second
-from running import CHAIN, LIVE, PAGE, RTGS, STORE, VIEW
+from running import CHAIN, LIVE, PAGE, RTGS, STORE, VIEW, builds_of
 
 SIZE = 2**20 - 4096
 MOST_SECONDS, MOST_MEGABYTES = 2, 200
@@ -645,7 +645,7 @@ JOURNALS, RESTS = [last_sender_first, ends_in_turn, ends_from_two_sides, last_pa
 
 class Costs:
     def __init__(self, programs):
-        self.programs, self.worst = [os.path.abspath(program) for program in programs], 0
+        self.programs, self.worst = programs, 0
 
     def run(self, program, words, given, seconds=60):
         """The status, the text, the seconds of processor, and the most memory in MB."""
@@ -719,11 +719,13 @@ def main(words):
     if words[:1] == ["print"] and len(words) == 3 and words[1] in shapes and shapes[words[1]] not in JOURNALS + RESTS:
         sys.stdout.buffer.write(shapes[words[1]](float(words[2])))
         return 0
-    if len(words) not in (6, 7) or words[6:] and words[6] not in shapes:
+    wanted = [word for word in words if word in shapes]
+    programs = builds_of([word for word in words if word not in shapes])
+    if not programs:
         print(__doc__)
         return 2
-    costs = Costs(words[:6])
-    for make in [shapes[words[6]]] if words[6:] else all_shapes:
+    costs = Costs(programs)
+    for make in [shapes[name] for name in wanted] or all_shapes:
         tried = next((how for some, how in ((CHAINS, costs.chain), (LIVES, costs.live), (JOURNALS + RESTS, costs.behind)) if make in some), costs.day)
         for share in (0.2, 0.5, 0.8):
             tried(make, share)

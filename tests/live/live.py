@@ -1,7 +1,7 @@
 #!/usr/bin/env python3
 """The program of a live day over files, pipes and a FIFO, judged by the second machine (live_machine.py).
 
-    .ci/live [jobs=N] [inputs=N] LIVE_DAY
+    tests/live/live.py [jobs=N] [inputs=N] PATH
 
 Inputs are the worked rows of live_machine.py, the examples, and so many (100 where none is said) that are made of a number each. The
 status and the text have to be those of the row or of the example, or what the second machine says, byte for byte, of an input that
@@ -26,9 +26,9 @@ import tempfile
 import time
 
 sys.dont_write_bytecode = True
-sys.path.insert(0, os.path.dirname(os.path.abspath(__file__)))
+sys.path.insert(0, os.path.dirname(os.path.dirname(os.path.abspath(__file__))) + "/machines")
 import live_machine as live
-from running import PATIENCE, SECONDS, Runs, left_in, sleeps, used_by
+from running import LIVE, PATIENCE, SECONDS, Runs, left_in, sleeps, used_by
 
 USAGE = b"usage: live_day run | resume\n"
 PIECES = (1, 2, 7, 4096)
@@ -137,7 +137,8 @@ class Session:
 
 class Trying:
     def __init__(self, program):
-        self.program, self.runs, self.count, self.wrong = os.path.abspath(program), Runs([program]), 0, []
+        self.program, self.count, self.wrong = os.path.abspath(program), 0, []
+        self.runs = Runs({LIVE: self.program})
 
     def must(self, name, got, wanted):
         if got != wanted:
@@ -145,7 +146,7 @@ class Trying:
 
     def at_once(self, name, words, given, wanted, seconds=SECONDS):
         self.count += 1
-        ended = self.runs.run(0, words, given, seconds=seconds)
+        ended = self.runs.run(LIVE, words, given, seconds=seconds)
         self.must(name, (ended.status, ended.text), wanted)
 
     def session(self, name, words, body, in_packets=False):

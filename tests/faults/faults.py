@@ -1,12 +1,12 @@
 #!/usr/bin/env python3
 """Streams that fail and memory that is refused, tried on all programs.
 
-    .ci/faults [few] [from=N] [jobs=N] [seconds=N] RTGS DAY_CHAIN DURABLE_DAY LIQUIDITY_VIEW DAY_PAGE LIVE_DAY
+    tests/faults/faults.py [few] [seed=N] [from=N] [jobs=N] [seconds=N] NAME=PATH..
 
-A library in C, which is built into a temporary folder and loaded in front of the C library, counts what a program asks of its
+Each program is named with the path of its build. A library in C, which is built into a temporary folder and loaded in front of the C library, counts what a program asks of its
 streams, of memory and of threads, and refuses what it is told. Each case is a program, its words and an input: the examples, by
 `settle` with 0, 1 and 4 workers, `check`, `migrate`, `replay` and `follow`; trials; refused days and spoilt journals; chains; stores
-that are new, cut, shown, gone on with, or of another day; views and pages; live days, gone on with after a break too; and a day whose
+that are new, cut, shown, gone on with, or of another day; views and pages; live days, gone on with after a break too; what gates pass on; and a day whose
 output is longer than what is gathered at once. Of each case these are tried:
 
 - reads and writes of 1 to 7 bytes at most: the answer is the same;
@@ -18,13 +18,13 @@ output is longer than what is gathered at once. Of each case these are tried:
   chains some whole days;
 - each thread is refused, alone and with all that follow: the answer is the same.
 
-A live day is told while it is read. So at a read that fails what was written is just what is told of the bytes read until then, as the
-second machine says; behind a write that fails nothing is read; and where memory is refused nothing was read. All of it is tried
+A live day is told while it is read, and passed on by a gate while it is told. So at a read that fails what was written is just what is told of the bytes read until then, as the
+second machine says, or a second filter; behind a write that fails nothing is read; and where memory is refused nothing was read. All of it is tried
 record by record, too: each read gives a line at most, so that each moment at which the program asks for more is seen.
 
 With workers the answer may be another one each time; then its journal has to be legal as `replay` says, and a front of it as
 `liquidity_view` says. In no run is anything read behind the end, and none hangs: takes twenty seconds of a processor, or five minutes by the clock.
-With `few`, of each sort at most six are tried of a case, of memory twelve, and of every fourth example. Else all are, but for calls
+With `few`, of each sort at most six are tried of a case, of memory twelve, and of every fourth example: another choice for each seed. Else all are, but for calls
 that take a few bytes each, of which at most a hundred fail. Cases are tried in one order: from case N on, else from the first, and
 none is begun after so many seconds, where they are said. So the rest is tried by later runs, of one job each: where 117 cases from the
 first on were tried, from=118 goes on. The last lines are how many runs of each sort there were, how they ended, how many of the cases
@@ -42,9 +42,9 @@ import tempfile
 import time
 
 sys.dont_write_bytecode = True
-sys.path.insert(0, os.path.dirname(os.path.abspath(__file__)))
+sys.path.insert(0, os.path.dirname(os.path.dirname(os.path.abspath(__file__))) + "/machines")
 import live_machine as live
-from running import CHAIN, LIVE, NAMES, PAGE, RTGS, STORE, VIEW, Runs
+from running import CHAIN, GATE, LIVE, PAGE, RTGS, STORE, VIEW, Runs, builds_of
 
 LIBRARY = r"""
 #define _GNU_SOURCE
@@ -150,19 +150,33 @@ def file_of(path):
         return file.read()
 
 
+def passed_on(party, told):
+    """What a gate passes on to a party of the whole lines of these bytes, of which none is too long: its own, and the last one."""
+    passed = b""
+    for line in told.split(b"\n")[:-1]:
+        fields = line.split(b";")
+        if fields[0] in (b"OK", b"E") and len(fields) > 1:
+            return passed + line + b"\n"
+        if fields[0] == b"S" and len(fields) > 3 and fields[2] == party:
+            passed += line + b"\n"
+    return passed
+
+
 class Case:
     """A program, its words and an input, and whether its answer may be another one each time."""
 
     def __init__(self, program, words, given, day=None):
         self.program, self.words, self.given, self.day = program, words, given, day
+        # It answers while its input comes.
+        self.is_live = program in (LIVE, GATE)
 
     def __str__(self):
-        return f"{NAMES[self.program]} {' '.join(self.words)} of {len(self.given)} bytes"
+        return f"{self.program} {' '.join(self.words)} of {len(self.given)} bytes"
 
 
 class Trying:
-    def __init__(self, runs, case, few):
-        self.runs, self.case, self.few, self.wrong, self.known, self.told = runs, case, few, [], set(), {}
+    def __init__(self, runs, case, few, seed):
+        self.runs, self.case, self.few, self.seed, self.wrong, self.known, self.told = runs, case, few, seed, [], set(), {}
         self.sorts, self.ends = collections.Counter(), collections.Counter()
 
     def these(self, last, most=1000000):
@@ -170,7 +184,7 @@ class Trying:
         most = min(most, 6) if self.few else most
         if last <= most:
             return range(1, last + 1)
-        return sorted({1 + (last - 1) * i // (most - 1) for i in range(most)})
+        return sorted({1, last} | {1 + (last - 1) * i // (most - 1) - self.seed % ((last - 1) // (most - 1)) for i in range(1, most - 1)})
 
     def is_whole(self, text):
         """Whether the text is the answer, or one that it may be."""
@@ -221,7 +235,7 @@ class Trying:
         if ended.status != 1:
             return self.is_answer(ended)
         if self.case.program != CHAIN:
-            return ended.text == b"" and (self.case.program != LIVE or ended.reads == 0)
+            return ended.text == b"" and (not self.case.is_live or ended.reads == 0)
         # Whole days at the front: what follows begins another one, or is behind all of them.
         rest = self.clean.text[len(ended.text):]
         return self.clean.text.startswith(ended.text) and (ended.text == b"" or rest[:2] in (b"D;", b"Y;", b"E;", b"CH"))
@@ -233,17 +247,21 @@ class Trying:
         return ended.status == 5 and len(ended.text) == ended.taken and self.is_front(ended.text) and ended.text != self.clean.text
 
     def due(self, count):
-        """What is told of the first bytes of a live day, while more may come."""
-        if count not in self.told:
+        """What is told of the first bytes, while more may come."""
+        if count not in self.told and self.case.program == GATE:
+            self.told[count] = passed_on(self.case.words[1].encode(), self.case.given[:count])
+        elif count not in self.told:
             self.told[count] = (live.told if self.case.words == ["run"] else live.told_again)(self.case.given[:count])
         return self.told[count]
 
     def unread(self, ended):
-        if self.case.program == LIVE:
+        if self.case.is_live:
             return ended.status == 4 and ended.text == self.due(ended.given)
         return ended.status == 4 and ended.text == b"" and ended.writes == 0
 
     def is_right(self, ended):
+        if self.case.program == GATE and ended.status != 2:
+            return ended.status == 0 and ended.text == self.due(len(self.case.given))
         if self.case.program != LIVE or ended.status == 2:
             return ended.status in (0, 2, 3, 6, 8, 9) and self.is_whole(ended.text)
         return (ended.status, ended.text) == (live.live_text if self.case.words == ["run"] else live.resumed)(self.case.given)
@@ -264,13 +282,13 @@ class Trying:
                 self.attempt_cut("a write fails", at, write_error=error)
         if clean.reads:
             for most in (1, 7):
-                reads = self.run(read_most=most).reads if self.case.program == LIVE else -(-len(self.case.given) // most) + 1
+                reads = self.run(read_most=most).reads if self.case.is_live else -(-len(self.case.given) // most) + 1
                 for at in self.these(reads, 100):
                     self.attempt("a short read fails", self.unread, read_at=at, read_error=errno.EIO, read_most=most)
         for most in (1, 2, 7):
             for at in self.these(-(-size // most), 100):
                 self.attempt_cut("a short write fails", at, write_error=errno.ENOSPC, write_most=most)
-        if self.case.program == LIVE and clean.reads:
+        if self.case.is_live and clean.reads:
             by_line = self.run(read_lines=1)
             self.must("record by record", self.is_answer, by_line)
             for at in self.these(by_line.reads, 100):
@@ -288,7 +306,7 @@ class Trying:
         return self
 
 
-def cases(runs, few):
+def cases(runs, few, seed):
     """What is tried: the examples, trials, chains, stores, views, pages and what is refused."""
     made = []
 
@@ -301,7 +319,7 @@ def cases(runs, few):
 
     days = sorted(name for name in os.listdir("examples") if name.endswith(".day"))
     good = [name for name in days if not os.path.exists(f"examples/{name[:-4]}.status")]
-    for name in good[::4] if few else good:
+    for name in good[seed % 4::4] if few else good:
         day = file_of("examples/" + name)
         told = answer(add(RTGS, "settle --workers 0", day))
         journal = journal_of(told)
@@ -317,6 +335,7 @@ def cases(runs, few):
             add(RTGS, f"follow {party}", day + told)
             add(VIEW, f"view {party} 1 9999999", day + journal)
             add(PAGE, f"page {party}", day + journal)
+            add(GATE, f"out {party}", live.told(day))
         add(PAGE, "page", day + journal)
         add(CHAIN, "", day)
         add(LIVE, "run", day)
@@ -330,16 +349,16 @@ def cases(runs, few):
             add(STORE, "run 9999999", day + left)
         add(STORE, "show", day + stored)
         add(STORE, "show", day + stored[:-9])
-    for refused in sorted(os.listdir("examples/refusals"))[::12 if few else 1]:
-        if refused.endswith(".day"):
-            day = file_of("examples/refusals/" + refused)
-            for program, words in ((RTGS, "settle --workers 0"), (RTGS, "settle --workers 4"), (RTGS, "migrate"), (RTGS, "replay"), (CHAIN, ""), (STORE, "run 99"), (VIEW, "view A 1 2"), (PAGE, "page"), (LIVE, "run")):
-                add(program, words, day)
-    for _, _, given, _ in live.ROWS[::8] if few else live.ROWS:
+    refused_days = sorted(name for name in os.listdir("examples/refusals") if name.endswith(".day"))
+    for refused in refused_days[seed % 4::4] if few else refused_days:
+        day = file_of("examples/refusals/" + refused)
+        for program, words in ((RTGS, "settle --workers 0"), (RTGS, "settle --workers 4"), (RTGS, "migrate"), (RTGS, "replay"), (CHAIN, ""), (STORE, "run 99"), (VIEW, "view A 1 2"), (PAGE, "page"), (LIVE, "run")):
+            add(program, words, day)
+    for _, _, given, _ in live.ROWS[seed % 8::8] if few else live.ROWS:
         add(LIVE, "run", live.lines_of(live.SETUP + given))
     for workers in (0, 1, 4):
         add(RTGS, f"trial 1 {3 if few else 40} --workers {workers}", b"")
-    for program, words in ((RTGS, "settle 0"), (CHAIN, "day"), (STORE, "run"), (VIEW, "view a 1 1"), (PAGE, "pages"), (LIVE, "runs")):
+    for program, words in ((RTGS, "settle 0"), (CHAIN, "day"), (STORE, "run"), (VIEW, "view a 1 1"), (PAGE, "pages"), (LIVE, "runs"), (GATE, "out a")):
         add(program, words, b"")
     add(LIVE, "resume", b"RECORDS;1\n")
     chained = file_of("crates/chain_main/stdin")
@@ -352,6 +371,7 @@ def cases(runs, few):
     add(CHAIN, "", long_day)
     add(STORE, "run 9999999", long_day)
     add(LIVE, "run", long_day)
+    add(GATE, "out NORTH", live.told(long_day))
     return made
 
 
@@ -370,29 +390,30 @@ def library_of(room):
 
 def try_all(at):
     """The cases of a process: every so many."""
-    programs, library, few, first, until, all_jobs, job = at
+    programs, library, few, seed, first, until, all_jobs, job = at
     runs = Runs(programs, library)
-    told, all_cases = [], cases(runs, few)
+    told, all_cases = [], cases(runs, few, seed)
     for case in all_cases[first - 1 + job::all_jobs]:
         if until and time.monotonic() > until:
             break
-        trying = Trying(runs, case, few).tried()
+        trying = Trying(runs, case, few, seed).tried()
         told.append((trying.sorts, trying.ends, trying.wrong))
     return runs.count, told, len(all_cases)
 
 
 def main(words):
-    few, first, jobs, until = False, 1, 1, None
-    while words and (words[0] == "few" or "=" in words[0]):
+    few, seed, first, jobs, until = False, 0, 1, 1, None
+    while words and (words[0] == "few" or words[0].startswith(("seed=", "from=", "jobs=", "seconds="))):
         word = words.pop(0)
         few = few or word == "few"
+        seed = int(word[5:]) if word.startswith("seed=") else seed
         first = int(word[5:]) if word.startswith("from=") else first
         jobs = int(word[5:]) if word.startswith("jobs=") else jobs
         until = time.monotonic() + int(word[8:]) if word.startswith("seconds=") else until
-    if len(words) != 6 or first < 1:
+    programs = builds_of(words)
+    if not programs or first < 1:
         print(__doc__)
         return 2
-    programs = [os.path.abspath(word) for word in words]
     with tempfile.TemporaryDirectory() as room:
         library, why = library_of(room)
         if library and Runs(programs, library).run(RTGS, ["check"], b"").loaded != 1:
@@ -402,7 +423,7 @@ def main(words):
             return 0
         sorts, ends, wrong, count, tried = collections.Counter(), collections.Counter(), [], 0, 0
         with concurrent.futures.ProcessPoolExecutor(jobs) as pool:
-            for more, told, whole in pool.map(try_all, [(programs, library, few, first, until, jobs, job) for job in range(jobs)]):
+            for more, told, whole in pool.map(try_all, [(programs, library, few, seed, first, until, jobs, job) for job in range(jobs)]):
                 count += more
                 tried += len(told)
                 for sort, end, bad in told:
