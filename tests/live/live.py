@@ -30,7 +30,7 @@ sys.path.insert(0, os.path.dirname(os.path.dirname(os.path.abspath(__file__))) +
 import live_machine as live
 from running import LIVE, PATIENCE, SECONDS, Runs, left_in, sleeps, used_by
 
-USAGE = b"usage: live_day run | resume\n"
+USAGE = b"usage: live_day run | resume | keep FILE [BYTES] | count FILE | show FILE\n"
 PIECES = (1, 2, 7, 4096)
 
 
@@ -243,7 +243,7 @@ class Trying:
     def edges(self):
         day = live.lines_of(live.SETUP + live.PAYMENT + b"END|")
         paid, over = live.lines_of(live.PAID), live.lines_of(live.MIDNIGHT_AT_3 + live.HELD)
-        for words in ([], [""], ["Run"], ["run", ""], ["run", "resume"], ["resume", "run"], ["run "], ["runs"], ["--help"], ["show"], [b"\xff"], ["run", b"\xff"]):
+        for words in ([], [""], ["Run"], ["run", ""], ["run", "resume"], ["resume", "run"], ["run "], ["runs"], ["--help"], ["shows"], [b"\xff"], ["run", b"\xff"]):
             self.at_once("the words %s" % words, words, day, (2, USAGE))
         self.at_once("no input", ["run"], b"", (3, b"E;1;CUT\n"))
         for name, status, read, written, rest, wanted in live.BREAKS:
