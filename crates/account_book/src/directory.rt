@@ -1,6 +1,7 @@
 //! What is found out about the records of a setup once, when a book is built.
 ghost use Rattle.std.specs.Prelude.{◌≡◌, ◌<◌, ◌≤◌, ◌+◌, ◌^◌, ℕ, nat_eq, None, Some, length, map, vec_capacity, IfOk, if◌then◌else◌};
 ghost use Rattle.std.specs.Option.{option_or};
+ghost use Rattle.refused_memory.specs.declared.lists.TheConstants.{MOST};
 ghost use Rattle.indexmap.specs.IndexMap.{spare};
 ghost use Rattle.cash_amounts.specs.Kinds.{flag_of};
 ghost use Rattle.account_book.specs.Directory.{find_system, fund_account, is_fund_of, is_technical_of, technical_account};
@@ -10,6 +11,7 @@ ghost use Rattle.account_book.specs.Rooms.{AreFree, HasRoom};
 use crate::setup_hasher::SetupHasher;
 use cash_amounts::{AccountKind, AccountRecord, Memory, Name, Procedure, SystemRecord};
 use indexmap::IndexMap;
+use refused_memory::map_with_capacity;
 use std::alloc::Global;
 
 // Numbers by the hashes of names, of each hash the first number, in room that was taken for them.
@@ -20,9 +22,10 @@ pub(crate) struct Directory {
 
 impl Directory {
     fn with_room(alloc: Global, most: usize) -> Result<Directory, Memory>
+        requires { most ≤ MOST }
         ensures { IfOk result (IsFree most) }
     {
-        let numbers = IndexMap::with_capacity(alloc, most)?;
+        let numbers = map_with_capacity(alloc, most)?;
         Ok(Directory { numbers })
     }
 
@@ -131,6 +134,7 @@ impl DirectoryRoom {
         accounts: usize,
         systems: usize,
     ) -> Result<DirectoryRoom, Memory>
+        requires { (accounts ≤ MOST) × (systems ≤ MOST) }
         ensures { IfOk result (AreFree accounts systems) }
     {
         let account_room = Directory::with_room(alloc, accounts)?;

@@ -1,8 +1,10 @@
 //! Room for a book, which is taken before its records are there.
-ghost use Rattle.std.specs.Prelude.{◌≡◌, IfOk};
+ghost use Rattle.std.specs.Prelude.{◌≡◌, IfOk, ◌≤◌};
+ghost use Rattle.refused_memory.specs.declared.lists.TheConstants.{MOST};
 
 use crate::directory::{DirectoryRoom, Roles};
 use cash_amounts::{AccountRecord, Memory, SystemRecord};
+use refused_memory::with_capacity;
 use std::alloc::Global;
 use std::marker::Model;
 
@@ -36,14 +38,15 @@ impl Model for BookRoom {
 impl BookRoom {
     /// Room for so many accounts and systems. `Memory` says that there wasn't that much.
     pub fn take(alloc: Global, accounts: usize, systems: usize) -> Result<BookRoom, Memory>
+        requires { (accounts ≤ MOST) × (systems ≤ MOST) }
         ensures { IfOk result (λ room. room
             ≡ record { accounts = accounts; systems = systems }) }
     {
         let directories = DirectoryRoom::take(alloc, accounts, systems)?;
-        let account_room = Vec::with_capacity(alloc, accounts)?;
-        let system_room = Vec::with_capacity(alloc, systems)?;
-        let links = Vec::with_capacity(alloc, accounts)?;
-        let roles = Vec::with_capacity(alloc, systems)?;
+        let account_room = with_capacity(alloc, accounts)?;
+        let system_room = with_capacity(alloc, systems)?;
+        let links = with_capacity(alloc, accounts)?;
+        let roles = with_capacity(alloc, systems)?;
         Ok(BookRoom {
             most_accounts: accounts,
             most_systems: systems,

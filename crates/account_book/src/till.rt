@@ -1,12 +1,14 @@
 //! What is held on accounts, and moved between them.
 ghost use Rattle.std.specs.Prelude.{◌≡◌, ◌≢◌, ◌+◌, ◌-◌, ◌≤◌, ℕ, Option, IfOk, IsSome, Some, is_some, length, map};
 ghost use Rattle.std.specs.Option.{IsSomeAnd};
+ghost use Rattle.refused_memory.specs.declared.lists.TheConstants.{MOST};
 ghost use Rattle.cash_amounts.specs.Numbers.{numbered};
 ghost use Rattle.cash_amounts.specs.declared.cents.TheConstants.{MAX_CENTS};
 ghost use Rattle.account_book.specs.Transfers.{transferred};
 
 use crate::Book;
 use cash_amounts::{AccountNumber, Cents, Memory};
+use refused_memory::with_capacity;
 use std::alloc::Global;
 use std::marker::Model;
 
@@ -72,9 +74,10 @@ impl Model for TillRoom {
 impl TillRoom {
     /// Room for so many accounts. `Memory` says that there wasn't that much.
     pub fn take(alloc: Global, accounts: usize) -> Result<TillRoom, Memory>
+        requires { accounts ≤ MOST }
         ensures { IfOk result (λ room. room ≡ accounts) }
     {
-        let balances = Vec::with_capacity(alloc, accounts)?;
+        let balances = with_capacity(alloc, accounts)?;
         Ok(TillRoom {
             most: accounts,
             balances,

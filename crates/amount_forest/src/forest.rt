@@ -12,6 +12,7 @@ use crate::mending::mend;
 use crate::node::{Entry, Link, NONE};
 use crate::search::{find, find_by, first, place};
 use cash_amounts::Memory;
+use refused_memory::{filled, with_capacity};
 use std::alloc::Global;
 use std::marker::Model;
 
@@ -43,7 +44,7 @@ impl Model for AmountForest {
 fn no_lasts(alloc: Global, lists: u32) -> Result<Vec<u32>, Memory>
     ensures { IfOk result (λ lasts. lasts.items ≡ replicate lists NONE) }
 {
-    Ok(vec![in alloc; NONE; lists as usize]?)
+    filled(alloc, NONE, lists as usize)
 }
 
 impl AmountForest {
@@ -53,9 +54,9 @@ impl AmountForest {
     {
         let room = amounts as usize;
         let lasts = no_lasts(alloc, lists)?;
-        let entries = Vec::with_capacity(alloc, room)?;
-        let links = Vec::with_capacity(alloc, room)?;
-        let leasts = Vec::with_capacity(alloc, room)?;
+        let entries = with_capacity(alloc, room)?;
+        let links = with_capacity(alloc, room)?;
+        let leasts = with_capacity(alloc, room)?;
         Ok(AmountForest {
             entries,
             links,

@@ -46,7 +46,7 @@ batch_of positions technical procedure info till =
 -- the sum of the positions is told where they make no batch, and want of memory of the others alone
 abbrev pub Tells : BatchFault → Result Body ℤ → Type 0
 Tells (Sum sum) answer = answer ≡ Err sum
-Tells Memory answer = IsOk answer
+Tells (Memory memory) answer = IsOk answer
 
 -- ---- the positions that may be given
 

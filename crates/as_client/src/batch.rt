@@ -16,17 +16,17 @@ pub enum BatchFault {
     /// They sum to this many cents, which aren't zero.
     Sum { sum: i128 },
     /// There was no memory left.
-    Memory,
+    Memory(Memory),
 }
 
 impl From<Memory> for BatchFault {
     ghost use Rattle.std.specs.Prelude.{◌≡◌};
     ghost use Rattle.as_client.specs.declared.batch.BatchFault.TheVariants as batch_faults;
 
-    ghost from_gives = { λ _ fault. fault ≡ batch_faults.Memory };
+    ghost from_gives = { λ memory fault. fault ≡ batch_faults.Memory memory };
 
-    fn from(_: Memory) -> Self {
-        BatchFault::Memory
+    fn from(memory: Memory) -> Self {
+        BatchFault::Memory(memory)
     }
 }
 

@@ -9,6 +9,7 @@ ghost use Rattle.as_client.specs.Turnovers.{AreTurnovers, HasRoom, IsSmall, left
 use crate::trade::{Position, Trade};
 use cash_amounts::{Memory, Name};
 use indexmap::IndexMap;
+use refused_memory::{insert_last, push};
 use std::alloc::Global;
 
 // What an account has received and what it has paid, in cents.
@@ -44,7 +45,7 @@ fn add(
         received: before.received + received,
         paid: before.paid + paid,
     };
-    turnovers.insert(account.copy(), after)?;
+    insert_last(turnovers, account.copy(), after)?;
     Ok(())
 }
 
@@ -101,7 +102,7 @@ fn push_open(positions: &mut Vec<Position>, position: Position) -> Result<(), Me
         ≡ positions.old.items ++ filter is_open (position ∷ [])) }
 {
     if position.sum != 0 {
-        positions.push(position)?;
+        push(positions, position)?;
     }
     Ok(())
 }

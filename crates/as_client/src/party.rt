@@ -15,6 +15,7 @@ use crate::view::{ViewFault, Word};
 use account_book::Book;
 use batch_records::{Day, MessageRecord};
 use cash_amounts::{AccountRecord, Cents, MAX_CENTS, Memory, Name};
+use refused_memory::push;
 use status_messages::{Status, TurnCode};
 use std::alloc::Global;
 use std::marker::Model;
@@ -65,7 +66,7 @@ fn openings(
 {
     let mut balances = Vec::new(alloc);
     for account in accounts {
-        balances.push(opening_told(account, name))?;
+        push(&mut balances, opening_told(account, name))?;
     }
     Ok(balances)
 }
@@ -87,7 +88,7 @@ fn first_words(alloc: Global, day: &Day, name: &Name) -> Result<Vec<Option<Word>
 {
     let mut words = Vec::new(alloc);
     for i in 0..day.message_count() {
-        words.push(word_of_sender(day.message(i), name))?;
+        push(&mut words, word_of_sender(day.message(i), name))?;
     }
     Ok(words)
 }

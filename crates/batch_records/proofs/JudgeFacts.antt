@@ -73,4 +73,4 @@ answer_where_bad text taken more r number s (day_faults.Record n c) all fine hel
     let bad = bad_here taken r more c fine found in
     let n_is : n ≡ length taken + 1 = is.0 ∙ at in
     rw (all, append_assoc taken (r ∷ []) more, bad.1, n_is) refl
-answer_where_bad text taken more r number s day_faults.Memory all fine held at is = tt
+answer_where_bad text taken more r number s (day_faults.Memory memory) all fine held at is = tt

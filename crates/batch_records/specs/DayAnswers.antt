@@ -15,7 +15,7 @@ day_of records = unless_bad (faults_of records) (day_made records)
 -- a fault that was told is the definition's, unless memory ran out
 abbrev pub Tells : {A : Type 0} → DayFault → Result A (ℕ × DayCode) → Type 0
 Tells (day_faults.Record number c) read = read ≡ Err (number, c)
-Tells day_faults.Memory read = Unit {0}
+Tells (day_faults.Memory memory) read = Unit {0}
 
 -- what was answered is the definition's answer, unless memory ran out
 abbrev pub Answers : {A : Type 0} → Result A DayFault → Result A (ℕ × DayCode) → Type 0

@@ -100,7 +100,7 @@ after s r = by_kind s (λ kind. after_kind kind s r) r
 -- a fault is told where there is one, of the record of this number; memory runs out only where the record is fine
 abbrev pub FaultIs : DayFault → ℕ → Option DayCode → Type 0
 FaultIs (day_faults.Record number c) n found = (number ≡ n) × (found ≡ Some c)
-FaultIs day_faults.Memory n found = found ≡ None
+FaultIs (day_faults.Memory memory) n found = found ≡ None
 
 abbrev pub is_batch_body : Body → Bool
 is_batch_body (bodies.Batch procedure info from till count sum entries) = true

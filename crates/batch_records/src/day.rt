@@ -1,6 +1,7 @@
 //! A day, as its file states it.
 
 ghost use Rattle.std.specs.Prelude.{◌+◌, ◌≡◌, ◌<◌, ◌≤◌, [], IfOk, Some, length, map, position, slice_get, sum_by, true};
+ghost use Rattle.refused_memory.specs.declared.lists.TheConstants.{MOST};
 ghost use Rattle.batch_records.specs.DayRecord.{no_room};
 ghost use Rattle.batch_records.specs.Flat.{with_entries, without_entries};
 ghost use Rattle.batch_records.specs.Growing.{entries_of, with_last_entry, with_record, with_stop, without_last};
@@ -299,7 +300,7 @@ pub enum DayFault {
     /// The first bad record, by its number from 1, and the first code that applies to it.
     Record { number: u32, code: DayCode },
     /// There was no memory left.
-    Memory,
+    Memory(Memory),
 }
 
 impl DayRoom {
@@ -310,6 +311,7 @@ impl DayRoom {
         entries: usize,
         stops: usize,
     ) -> Result<DayRoom, Memory>
+        requires { (messages ≤ MOST) × (entries ≤ MOST) × (stops ≤ MOST) }
         ensures { IfOk result (λ room. room
             ≡ record { messages = messages; entries = entries; stops = stops }) }
     {

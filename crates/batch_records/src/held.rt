@@ -1,6 +1,7 @@
 //! The messages and the stops of a day, with the room that was taken for more of them.
 
-ghost use Rattle.std.specs.Prelude.{◌≡◌, ◌<◌, ◌-◌, [], ◌∷◌, ◌++◌, IfOk, Some, length, map, slice_get, take};
+ghost use Rattle.std.specs.Prelude.{◌≡◌, ◌<◌, ◌-◌, [], ◌∷◌, ◌++◌, IfOk, Some, length, map, slice_get, take, ◌≤◌};
+ghost use Rattle.refused_memory.specs.declared.lists.TheConstants.{MOST};
 ghost use Rattle.batch_records.specs.Flat.{with_entries, without_entries};
 ghost use Rattle.batch_records.specs.Growing.{entries_of};
 ghost use Rattle.batch_records.specs.Parts.{entries_at};
@@ -9,6 +10,7 @@ ghost use Rattle.batch_records.specs.Step.{with_entry, with_last};
 use crate::day::{Entry, MessageRecord};
 use crate::lists::{Messages, Stops, is_last_batch};
 use cash_amounts::Memory;
+use refused_memory::with_capacity;
 use row_list::RowList;
 use std::alloc::Global;
 use std::marker::Model;
@@ -60,10 +62,11 @@ impl HeldMessages {
         messages: usize,
         entries: usize,
     ) -> Result<HeldMessages, Memory>
+        requires { (messages ≤ MOST) × (entries ≤ MOST) }
         ensures { IfOk result (λ held. held
             ≡ record { list = []; most_messages = messages; most_entries = entries }) }
     {
-        let records = Vec::with_capacity(alloc, messages)?;
+        let records = with_capacity(alloc, messages)?;
         let rows = RowList::with_room(alloc, messages, entries)?;
         Ok(HeldMessages {
             records,
@@ -182,9 +185,10 @@ impl HeldStops {
 
     // No stops, with room for so many.
     pub(crate) fn with_room(alloc: Global, most: usize) -> Result<HeldStops, Memory>
+        requires { most ≤ MOST }
         ensures { IfOk result (λ held. held ≡ record { list = []; most = most }) }
     {
-        let items = Vec::with_capacity(alloc, most)?;
+        let items = with_capacity(alloc, most)?;
         Ok(HeldStops { items, most })
     }
 

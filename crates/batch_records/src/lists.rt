@@ -8,6 +8,7 @@ ghost use Rattle.batch_records.specs.Step.{with_entry, with_last};
 
 use crate::day::{Entry, MessageRecord, RecordBody, Reserve};
 use cash_amounts::{AccountRecord, Memory, SystemRecord};
+use refused_memory::{push, reserve};
 use row_list::RowList;
 use std::alloc::Global;
 use std::marker::Model;
@@ -42,10 +43,7 @@ impl Entries {
         ensures ok { OnOk result (self.new ≡ self.old ++ item ∷ []) }
         ensures err { OnErr result (self.new ≡ self.old) }
     {
-        match self.items.push(item) {
-            Ok(()) => Ok(()),
-            Err(_) => Err(Memory),
-        }
+        push(&mut self.items, item)
     }
 
     /// The items.
@@ -100,10 +98,7 @@ impl Accounts {
         ensures ok { OnOk result (self.new ≡ self.old ++ item ∷ []) }
         ensures err { OnErr result (self.new ≡ self.old) }
     {
-        match self.items.push(item) {
-            Ok(()) => Ok(()),
-            Err(_) => Err(Memory),
-        }
+        push(&mut self.items, item)
     }
 
     /// The items.
@@ -151,10 +146,7 @@ impl Systems {
         ensures ok { OnOk result (self.new ≡ self.old ++ item ∷ []) }
         ensures err { OnErr result (self.new ≡ self.old) }
     {
-        match self.items.push(item) {
-            Ok(()) => Ok(()),
-            Err(_) => Err(Memory),
-        }
+        push(&mut self.items, item)
     }
 
     /// The items.
@@ -202,10 +194,7 @@ impl Reserves {
         ensures ok { OnOk result (self.new ≡ self.old ++ item ∷ []) }
         ensures err { OnErr result (self.new ≡ self.old) }
     {
-        match self.items.push(item) {
-            Ok(()) => Ok(()),
-            Err(_) => Err(Memory),
-        }
+        push(&mut self.items, item)
     }
 
     /// The items.
@@ -245,10 +234,7 @@ impl Stops {
         ensures ok { OnOk result (self.new ≡ self.old ++ item ∷ []) }
         ensures err { OnErr result (self.new ≡ self.old) }
     {
-        match self.items.push(item) {
-            Ok(()) => Ok(()),
-            Err(_) => Err(Memory),
-        }
+        push(&mut self.items, item)
     }
 
     /// The items.
@@ -303,7 +289,7 @@ impl Messages {
         ensures ok { OnOk result (self.new ≡ self.old ++ with_entries message [] ∷ []) }
         ensures err { OnErr result (self.new ≡ self.old) }
     {
-        self.records.reserve(1)?;
+        reserve(&mut self.records, 1)?;
         self.entries.begin_row()?;
         self.records.push_reserved(message);
         Ok(())

@@ -1,7 +1,6 @@
 //! Reading a day.
 
 ghost use Rattle.std.specs.Prelude.{◌≡◌, ◌≤◌, IfOk, length, true};
-ghost use Rattle.csv.specs.Reading.{error_kind, stops_reader};
 ghost use Rattle.batch_records.specs.Counts.{record_count};
 ghost use Rattle.batch_records.specs.Days.{day_of_bytes};
 ghost use Rattle.batch_records.specs.DayAnswers.{Answers, day_of};
@@ -14,19 +13,10 @@ use crate::day::{Day, DayFault};
 use crate::front::front_len;
 use crate::part::day_len;
 use crate::so_far::SoFar;
-use cash_amounts::Memory;
-use csv::{ByteRecord, Error, ReaderBuilder};
+use csv::{ByteRecord, ReaderBuilder};
 use record_rows::Row;
+use refused_memory::read_record;
 use std::alloc::Global;
-
-// The fault of a read that failed underneath or for memory, and for no other reason.
-fn no_memory(e: Error) -> DayFault
-    requires { stops_reader (error_kind e) ≡ true }
-    ensures { result ≡ DayFault.Memory }
-{
-    drop(e);
-    DayFault::Memory
-}
 
 // The day of some bytes of a day part. Of each record as much is judged as a `Row` has room for, which is enough
 // (`cut_is_judged_alike`).
@@ -43,10 +33,10 @@ fn read_front(alloc: Global, part: &[u8]) -> Result<Day, DayFault>
     let mut row = Row::new();
     let mut so_far = match SoFar::with_room(alloc) {
         Ok(so_far) => so_far,
-        Err(Memory) => return Err(DayFault::Memory),
+        Err(memory) => return Err(DayFault::Memory(memory)),
     };
     for number in 1..u32::MAX {
-        match reader.read_byte_record(&mut record) {
+        match read_record(&mut reader, &mut record) {
             Ok(true) => {
                 row.fill(&record);
                 match so_far.take(&row, number) {
@@ -55,7 +45,7 @@ fn read_front(alloc: Global, part: &[u8]) -> Result<Day, DayFault>
                 }
             }
             Ok(false) => return so_far.finish(number),
-            Err(e) => return Err(no_memory(e)),
+            Err(memory) => return Err(DayFault::Memory(memory)),
         }
     }
     // The limits of a day are far below the numbers of 32 bits.

@@ -12,6 +12,7 @@ use crate::lists::Accounts;
 use crate::setup::{is_dca_number, number_named, owns_dca};
 use cash_amounts::{AccountKind, AccountRecord, MAX_ACCOUNTS, Memory, Name};
 use message_names::FirstNames;
+use refused_memory::with_capacity;
 use std::alloc::Global;
 use std::marker::Model;
 
@@ -42,7 +43,7 @@ impl Register {
     pub fn with_room(alloc: Global) -> Result<Register, Memory>
         ensures { IfOk result (λ register. register ≡ []) }
     {
-        let accounts = Vec::with_capacity(alloc, MAX_ACCOUNTS)?;
+        let accounts = with_capacity(alloc, MAX_ACCOUNTS)?;
         let names = FirstNames::with_room(alloc, MAX_ACCOUNTS as u32)?;
         let banks = FirstNames::with_room(alloc, MAX_ACCOUNTS as u32)?;
         Ok(Register {

@@ -6,6 +6,7 @@ ghost use Rattle.cash_amounts.specs.declared.limits.TheConstants.{MAX_ACCOUNTS, 
 use crate::day::Reserve;
 use crate::lists::{Reserves, Systems};
 use cash_amounts::{MAX_ACCOUNTS, MAX_SYSTEMS, Memory, SystemRecord};
+use refused_memory::with_capacity;
 use std::alloc::Global;
 use std::marker::Model;
 
@@ -32,7 +33,7 @@ impl HeldSystems {
     pub(crate) fn with_room(alloc: Global) -> Result<HeldSystems, Memory>
         ensures { IfOk result (λ held. held ≡ []) }
     {
-        let items = Vec::with_capacity(alloc, MAX_SYSTEMS)?;
+        let items = with_capacity(alloc, MAX_SYSTEMS)?;
         Ok(HeldSystems { items })
     }
 
@@ -82,7 +83,7 @@ impl HeldReserves {
     pub(crate) fn with_room(alloc: Global) -> Result<HeldReserves, Memory>
         ensures { IfOk result (λ held. held ≡ []) }
     {
-        let items = Vec::with_capacity(alloc, MAX_ACCOUNTS)?;
+        let items = with_capacity(alloc, MAX_ACCOUNTS)?;
         Ok(HeldReserves { items })
     }
 

@@ -474,7 +474,7 @@ impl SoFar {
         }
         match self.add(row) {
             Ok(()) => Ok(()),
-            Err(Memory) => Err(DayFault::Memory),
+            Err(memory) => Err(DayFault::Memory(memory)),
         }
     }
 

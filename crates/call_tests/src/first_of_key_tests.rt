@@ -18,7 +18,7 @@ const FIRST_BIT: Key = Key {
 fn firsts_are_found(rt: HostRuntime) {
     let mut keys = match FirstKeys::with_room(rt.alloc(), 5) {
         Ok(keys) => keys,
-        Err(Memory) => panic!(rt; "memory"),
+        Err(_) => panic!(rt; "memory"),
     };
     assert_eq!(rt; keys.first(FIRST), None);
     assert_eq!(rt; keys.enter(FIRST), None);

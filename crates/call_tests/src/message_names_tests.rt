@@ -24,7 +24,7 @@ fn id(rt: &impl Abort, text: &[u8]) -> MsgId {
 fn repeats_are_found(rt: HostRuntime) {
     let mut names = match MessageNames::with_room(rt.alloc(), 6) {
         Ok(names) => names,
-        Err(Memory) => panic!(rt; "memory"),
+        Err(_) => panic!(rt; "memory"),
     };
     let long = name(&rt, LONG);
     let other = name(&rt, OTHER);
@@ -47,7 +47,7 @@ fn repeats_are_found(rt: HostRuntime) {
 fn names_of_one_sender_lead_to_the_one_before(rt: HostRuntime) {
     let mut names = match MessageNames::with_room(rt.alloc(), 6) {
         Ok(names) => names,
-        Err(Memory) => panic!(rt; "memory"),
+        Err(_) => panic!(rt; "memory"),
     };
     let long = name(&rt, LONG);
     let other = name(&rt, OTHER);
@@ -73,7 +73,7 @@ fn names_of_one_sender_lead_to_the_one_before(rt: HostRuntime) {
 fn short_names_are_told_apart(rt: HostRuntime) {
     let mut names = match MessageNames::with_room(rt.alloc(), 3) {
         Ok(names) => names,
-        Err(Memory) => panic!(rt; "memory"),
+        Err(_) => panic!(rt; "memory"),
     };
     let eight = name(&rt, b"BANKOFAB");
     let nine = name(&rt, b"BANKOFABC");
@@ -89,7 +89,7 @@ fn short_names_are_told_apart(rt: HostRuntime) {
 fn names_by_themselves_are_found(rt: HostRuntime) {
     let mut names = match FirstNames::with_room(rt.alloc(), 4) {
         Ok(names) => names,
-        Err(Memory) => panic!(rt; "memory"),
+        Err(_) => panic!(rt; "memory"),
     };
     let long = name(&rt, LONG);
     let other = name(&rt, OTHER);

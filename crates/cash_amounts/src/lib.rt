@@ -4,7 +4,6 @@
 mod amount_text;
 mod cents;
 mod limits;
-mod memory;
 mod name;
 mod number_kinds;
 mod records;
@@ -16,8 +15,8 @@ pub use limits::{
     MAX_ACCOUNTS, MAX_ENTRIES, MAX_ENTRIES_OF_DAY, MAX_ENTRIES_OF_DAY_BEFORE_THIRD,
     MAX_ENTRIES_OF_FIRST, MAX_MESSAGES, MAX_MESSAGES_BEFORE_THIRD, MAX_SYSTEMS,
 };
-pub use memory::Memory;
 pub use name::{MsgId, Name};
 pub use number_kinds::{AccountNumber, EntryNumber, LinePlace, MessageNumber, Seconds};
 pub use records::{AccountKind, AccountRecord, Procedure, SystemRecord};
+pub use refused_memory::Memory;
 pub use words::Words;

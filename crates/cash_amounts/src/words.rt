@@ -1,7 +1,7 @@
 //! The words of a command line.
 ghost use Rattle.std.specs.Prelude.{◌≡◌, ◌<◌, [], ◌∷◌, ◌++◌, length, OnOk, OnErr, slice_get};
 
-use crate::Memory;
+use refused_memory::{Memory, push, text_of};
 use std::alloc::Global;
 use std::marker::Model;
 
@@ -36,8 +36,8 @@ impl Words {
         ensures ok { OnOk result (self.new ≡ self.old ++ word.now ∷ []) }
         ensures err { OnErr result (self.new ≡ self.old) }
     {
-        let word = word.to_string(self.alloc)?;
-        self.words.push(word)?;
+        let word = text_of(self.alloc, word)?;
+        push(&mut self.words, word)?;
         Ok(())
     }
 

@@ -5,6 +5,7 @@ ghost use Rattle.commit_journal.specs.Histories.{oldest, moves_of};
 
 use crate::line::{Head, Move};
 use cash_amounts::{LinePlace, Memory};
+use refused_memory::with_capacity;
 use std::alloc::Global;
 use std::marker::Model;
 
@@ -44,8 +45,8 @@ impl Journal {
     pub fn with_room(alloc: Global, lines: u32, moves: u32) -> Result<Journal, Memory>
         ensures { IfOk result (λ j. j ≡ with_room lines moves) }
     {
-        let stored = Vec::with_capacity(alloc, lines as usize)?;
-        let list = Vec::with_capacity(alloc, moves as usize)?;
+        let stored = with_capacity(alloc, lines as usize)?;
+        let list = with_capacity(alloc, moves as usize)?;
         Ok(Journal {
             stored,
             moves: list,

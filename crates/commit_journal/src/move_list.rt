@@ -3,6 +3,7 @@ ghost use Rattle.std.specs.Prelude.{◌≡◌, ◌<◌, ◌+◌, ◌-◌, [], �
 
 use crate::line::Move;
 use cash_amounts::{MAX_ENTRIES, Memory};
+use refused_memory::with_capacity;
 use std::alloc::Global;
 use std::marker::Model;
 
@@ -33,7 +34,7 @@ impl MoveList {
     pub fn with_room(alloc: Global, n: u32) -> Result<MoveList, Memory>
         ensures { IfOk result (λ list. list ≡ record { moves = []; room = n }) }
     {
-        let moves = Vec::with_capacity(alloc, n as usize)?;
+        let moves = with_capacity(alloc, n as usize)?;
         Ok(MoveList { moves, most: n })
     }
 

@@ -254,6 +254,7 @@ stopped bytes at ledger old mid new status short way takes = go (takes way.told 
     go : TakesNext way.told (drop at bytes) mid new (Err status) → TellsAll bytes old new status
     go (inl lack) = inl (record {
       short = lack.0;
+      refused = lack.2;
       told = way.told;
       rest = drop at bytes;
       front = way.front;

@@ -33,7 +33,7 @@ longer_cut old new text more all same cut = subst (IsCutShort old new) same (cut
 short_over : (bytes : List ℕ) (above beyond old new : SinkState) (status end : ℕ) → (short : RunsShort bytes above beyond status) →
     ((end ≡ 1) × HasPut old new (parts_text short.told)) ⊎ ((end ≡ 5) × IsCutShort old new (parts_text short.told)) → TellsAll bytes old new end
 short_over bytes above beyond old new status end short (inl all) =
-    inl (record { short = all.0; told = short.told; rest = short.rest; front = short.front; begun = short.begun; put = all.1 })
+    inl (record { short = all.0; refused = short.refused; told = short.told; rest = short.rest; front = short.front; begun = short.begun; put = all.1 })
 short_over bytes above beyond old new status end short (inr cut) =
     inr (inr (cut.0, longer_cut old new (parts_text short.told) short.begun.0 (answer_of bytes).text short.begun.1 cut.1))
 

@@ -12,6 +12,7 @@ use Rattle.program_answers.proofs.Promising.{promise-memory, promise-said}
 use Rattle.program_answers.proofs.Reading.{told_once}
 use Rattle.program_answers.proofs.Statuses.{none_of}
 use Rattle.day_chain.specs.Answers.{answer_from, answer_of, longest_input, TellsAll}
+use Rattle.refused_memory.specs.{WasRefused}
 use Rattle.day_chain.specs.ChainTexts.{parts_text}
 use Rattle.day_chain.specs.Promises.{ChainPromises, IsAnswer, IsDefined, RanShort, chain_program, request_of}
 use Rattle.day_chain.proofs.Answering.{all_answers, front_none}
@@ -22,8 +23,8 @@ no_parts : (old new : SinkState) → new ≡ old → HasPut old new (parts_text 
 unfolding parts_text
 no_parts old new e = subst (λ s. HasPut old s []) (sym e) (has_put_none old)
 
-pub promise-unread : (run : Run) → Asks chain_program run tt → run.status ≡ 1 → TakesAtMost run.left run.left_after longest_input → run.ends_after ≡ run.ends → WritesNothing run → run.read_faults_after ≡ run.read_faults → ChainPromises run
-promise-unread run w e took untold nothing kept =
+pub promise-unread : (run : Run) → Asks chain_program run tt → run.status ≡ 1 → WasRefused → TakesAtMost run.left run.left_after longest_input → run.ends_after ≡ run.ends → WritesNothing run → run.read_faults_after ≡ run.read_faults → ChainPromises run
+promise-unread run w e cause took untold nothing kept =
     let short : RanShort run = record {
       bytes = took.0;
       taken = took.2;
@@ -33,7 +34,7 @@ promise-unread run w e took untold nothing kept =
       front = front_none took.0;
       text = no_parts run.sink run.sink_after nothing;
     } in
-    promise-memory chain_program run tt w refl e short (inl untold) (ap (λ (s : SinkState). s.faults) nothing) kept
+    promise-memory chain_program run tt w refl e cause short (inl untold) (ap (λ (s : SinkState). s.faults) nothing) kept
 
 -- ---- the input is too long
 
@@ -60,7 +61,7 @@ never_five bytes short = (none_of (answer_of bytes).status (own_status bytes (an
 pub promise-told : (run : Run) (bytes : List ℕ) → Asks chain_program run tt → HasRead longest_input run bytes → length bytes ≤ longest_input → TellsAll bytes run.sink run.sink_after run.status → run.read_faults_after ≡ run.read_faults → ChainPromises run
 promise-told run bytes w read short (inl lack) kept =
     let ran : RanShort run = record { bytes = bytes; taken = read.taken; within = read.within; told = lack.told; rest = lack.rest; front = lack.front; text = lack.put } in
-    promise-memory chain_program run tt w refl lack.short ran (told_once longest_input run bytes read) lack.put.kept kept
+    promise-memory chain_program run tt w refl lack.short lack.refused ran (told_once longest_input run bytes read) lack.put.kept kept
 promise-told run bytes w read short (inr said) kept =
     let says = all_answers bytes short in
     promise-said chain_program run tt bytes (answer_of bytes) w refl read (refl, inl (short, says)) (own_status bytes (answer_of bytes) says) said kept

@@ -1,5 +1,6 @@
 -- The answer of the program: a status and a text for the bytes that it was given.
 use Rattle.std.specs.Prelude.{ℕ, zero, suc, ◌≡◌, ◌⊎◌, if◌then◌else◌, List, [], ◌∷◌, ◌++◌, length, drop, nat_lt, Option, Some, None, Result, Ok, Err}
+use Rattle.refused_memory.specs.{WasRefused}
 use Rattle.outside_io.specs.Pieces.{HasPut, IsCutShort, SinkState}
 use Rattle.batch_records.specs.DayRecord.{Day}
 use Rattle.batch_records.specs.declared.day.DayCode.{DayCode}
@@ -72,9 +73,10 @@ answer_of bytes = if nat_lt longest_input (length bytes) then too_long else answ
 abbrev pub IsFrontOf : List Day → Answer → Type 0
 IsFrontOf told answer = (more : List ℕ) × (parts_text told ++ more ≡ answer.text)
 
--- Memory is wanting: some days at the front of the bytes were told, or none, and nothing more was written.
+-- A request for memory was refused: some days at the front of the bytes were told, or none, and nothing more was written.
 pub record RunsShort (bytes : List ℕ) (old new : SinkState) (status : ℕ) : Type 0 where
   pub short : status ≡ 1
+  pub refused : WasRefused
   pub told : List Day
   pub rest : List ℕ
   pub front : IsFront bytes told rest

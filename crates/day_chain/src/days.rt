@@ -76,8 +76,9 @@ fn tell_day<S: Sink>(alloc: Global, ledger: Ledger, day: Day, output: &mut S) ->
     ensures { (told : List Day) → Stands told ledger → fault_behind told day ≡ None
         → TellsDay told day (S.state output.old) (S.state output.new) result }
 {
-    let Ok(prepared) = prepare(alloc, ledger, day) else {
-        return Err(1);
+    let prepared = match prepare(alloc, ledger, day) {
+        Ok(prepared) => prepared,
+        Err(_) => return Err(1),
     };
     if put_part(
         &prepared.settled.setting.day,
@@ -136,6 +137,6 @@ pub fn take_next<S: Sink>(
     match read_day(alloc, bytes) {
         Ok((day, length)) => take_day(alloc, ledger, day, length, output),
         Err(DayFault::Record { number, code }) => Err(refuse(ledger.count, number, code, output)),
-        Err(DayFault::Memory) => Err(1),
+        Err(DayFault::Memory(_)) => Err(1),
     }
 }

@@ -18,6 +18,7 @@ use crate::sums::{Sums, add_moves, new_sums, set_aside};
 use account_book::Holdings;
 use batch_records::Day;
 use cash_amounts::{MAX_CENTS, Memory};
+use refused_memory::push;
 use rule_book::parts::account_count;
 use std::alloc::Global;
 
@@ -91,7 +92,7 @@ pub fn open_year(
             if last.year.year == year {
                 return Ok(last.year);
             }
-            years.push(last.year)?;
+            push(years, last.year)?;
         }
         None => {}
     }

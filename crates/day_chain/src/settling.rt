@@ -49,7 +49,7 @@ fn settle_in(alloc: Global, setting: Setting) -> Result<Settled, Memory>
     let till = OneTill::open(alloc, &setting.book)?;
     match Floor::open(alloc, &setting) {
         Ok(floor) => Ok(run_out(setting, floor, till)),
-        Err(_) => Err(Memory),
+        Err(memory) => Err(memory),
     }
 }
 

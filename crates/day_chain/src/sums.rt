@@ -8,6 +8,7 @@ ghost use Rattle.day_chain.specs.Summing.{blank, changed, HaveRoom, more_aside, 
 use batch_records::Day;
 use cash_amounts::{AccountNumber, MAX_CENTS, Memory};
 use commit_journal::Move;
+use refused_memory::push;
 use rule_book::parts::account;
 use std::alloc::Global;
 
@@ -131,7 +132,7 @@ pub fn new_sums(alloc: Global, day: &Day) -> Result<Vec<Sums>, Memory>
     let mut sums = Vec::new(alloc);
     let count = day.accounts().len() as u32;
     for before in 0..count {
-        sums.push(blank(day, before + 1))?;
+        push(&mut sums, blank(day, before + 1))?;
     }
     Ok(sums)
 }

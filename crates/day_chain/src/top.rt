@@ -92,6 +92,6 @@ pub fn chain<I: Source, S: Sink>(alloc: Global, words: &Words, input: &mut I, ou
             hand_over(status, &mut gathering)
         }
         Err(ReadEnd::Fault) => 4,
-        Err(ReadEnd::Memory) => 1,
+        Err(ReadEnd::Memory(_)) => 1,
     }
 }

@@ -329,21 +329,18 @@ impl DayFacts {
     // ---- a day that goes on
 
     /// What no lines tell of any day of at most so many systems, of which nothing but its setup has come, with room for so many
-    /// messages, with so many entries in all. All memory that is needed is taken here, and `Memory` says that there wasn't that much, or
-    /// that no day has so many.
+    /// messages, with so many entries in all. All memory that is needed is taken here, and `Memory` says that there wasn't that much.
     pub fn empty(
         alloc: Global,
         systems: u32,
         messages: u32,
         entries: u32,
     ) -> Result<DayFacts, Memory>
+        requires { messages + entries < 2 ^ 32 }
         ensures empty { (day : Day) → length day.systems ≤ systems
             → IfOk result (λ facts. StandsFor (setup day) [] facts) }
         ensures room { IfOk result (λ facts. HasRoom messages entries facts) }
     {
-        if u32::MAX - messages < entries {
-            return Err(Memory);
-        }
         let facts = DayFacts::none(alloc, systems, 0, messages, messages + entries)?;
         Ok(facts)
     }

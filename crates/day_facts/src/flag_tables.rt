@@ -1,5 +1,6 @@
 //! The three tables of flags: of debits, of items that wait, and of entries that are kept.
 ghost use Rattle.std.specs.Prelude.{◌≡◌, ◌+◌, ◌<◌, ◌≤◌, ◌∷◌, [], IfOk, length};
+ghost use Rattle.refused_memory.specs.declared.lists.TheConstants.{MOST};
 ghost use Rattle.machine.specs.Records.Messages.{entries, message_at};
 ghost use Rattle.day_facts.specs.declared.watched.Watched.TheVariants as watches;
 ghost use Rattle.day_facts.specs.FlagTables.{IsFree, no_tables, table_in, tables_after, with_watched};
@@ -11,6 +12,7 @@ use crate::left::{note_booking, note_objection};
 use crate::watched::Watched;
 use cash_amounts::{Memory, MessageNumber};
 use commit_journal::Head;
+use refused_memory::{push, with_capacity};
 use rule_book::Setting;
 use std::alloc::Global;
 use std::marker::Model;
@@ -72,12 +74,13 @@ fn arrive_tables(tables: &mut [FlagRows], setting: &Setting, n: u32)
 impl DayFlags {
     // No rows, with room for so many, and for so many items in all rows of a table.
     pub fn with_room(alloc: Global, rows: usize, items: u32) -> Result<DayFlags, Memory>
+        requires { rows ≤ MOST }
         ensures { IfOk result (λ flags. flags ≡ no_tables rows items) }
     {
-        let mut tables = Vec::with_capacity(alloc, 3)?;
-        tables.push(FlagRows::with_room(alloc, rows, items)?)?;
-        tables.push(FlagRows::with_room(alloc, rows, items)?)?;
-        tables.push(FlagRows::with_room(alloc, rows, items)?)?;
+        let mut tables = with_capacity(alloc, 3)?;
+        push(&mut tables, FlagRows::with_room(alloc, rows, items)?)?;
+        push(&mut tables, FlagRows::with_room(alloc, rows, items)?)?;
+        push(&mut tables, FlagRows::with_room(alloc, rows, items)?)?;
         Ok(DayFlags { tables })
     }
 

@@ -1,6 +1,7 @@
 //! Flags in rows, of which it is known at once how many of a row stand.
 ghost use Rattle.std.specs.Prelude.{◌≡◌, ◌+◌, ◌-◌, ◌<◌, ◌≤◌, ◌++◌, [], Some, IfOk, false, count_by, if◌then◌else◌, is_some, length, slice_index_or, slice_set, take};
 ghost use Rattle.std.specs.Option.{option_map_or};
+ghost use Rattle.refused_memory.specs.declared.lists.TheConstants.{MOST};
 ghost use Rattle.number_set.specs.Next.{IsNext};
 ghost use Rattle.machine.specs.Words.{numbered, when};
 ghost use Rattle.machine.specs.Records.Messages.{entries};
@@ -13,6 +14,7 @@ ghost use Rattle.day_facts.specs.Rows.{IsCounted, count_in, flag_at, none_in};
 use crate::watched::{Watched, is_watched};
 use cash_amounts::{EntryNumber, Memory, MessageNumber};
 use number_set::NumberSet;
+use refused_memory::with_capacity;
 use rule_book::Setting;
 use rule_book::parts::entry_count;
 use rule_book::rows::spot;
@@ -191,11 +193,12 @@ impl Model for FlagRows {
 impl FlagRows {
     // No rows, with room for so many, and for so many items in all of them.
     pub fn with_room(alloc: Global, rows: usize, items: u32) -> Result<FlagRows, Memory>
+        requires { rows ≤ MOST }
         ensures { IfOk result (λ r.
             r ≡ record { rows = []; room_for_rows = rows; room_for_items = items }) }
     {
-        let ends = Vec::with_capacity(alloc, rows)?;
-        let standing = Vec::with_capacity(alloc, rows)?;
+        let ends = with_capacity(alloc, rows)?;
+        let standing = with_capacity(alloc, rows)?;
         let free = items;
         let items = NumberSet::with_room(alloc, free)?;
         Ok(FlagRows {

@@ -16,6 +16,7 @@ use crate::flags::FlagRows;
 use batch_records::{MessageRecord, RecordBody};
 use cash_amounts::{LinePlace, Memory, MessageNumber, Name, Procedure};
 use commit_journal::Head;
+use refused_memory::with_capacity;
 use rule_book::Setting;
 use rule_book::parties::{entry_of, is_party_at, party_keys};
 use rule_book::parts::{entry_count, message};
@@ -168,7 +169,7 @@ impl LastDebits {
     pub fn with_room(alloc: Global, most: u32) -> Result<LastDebits, Memory>
         ensures { IfOk result (λ lasts. lasts ≡ record { items = []; room = most }) }
     {
-        let items = Vec::with_capacity(alloc, most as usize)?;
+        let items = with_capacity(alloc, most as usize)?;
         Ok(LastDebits { items })
     }
 

@@ -10,6 +10,7 @@ use crate::own::OwnTable;
 use batch_records::{MessageRecord, RecordBody};
 use cash_amounts::{Memory, MessageNumber};
 use commit_journal::Code;
+use refused_memory::with_capacity;
 use rule_book::Setting;
 use rule_book::parties::party_place;
 use rule_book::parts::message;
@@ -38,7 +39,7 @@ fn put(items: &mut [u32], i: usize, m: u32) {
 impl Objectors {
     // No batches, with room for twice as many banks in them.
     pub fn with_room(alloc: Global, most: u32) -> Result<Objectors, Memory> {
-        let items = Vec::with_capacity(alloc, 2 * most as usize)?;
+        let items = with_capacity(alloc, 2 * most as usize)?;
         Ok(Objectors { items })
     }
 

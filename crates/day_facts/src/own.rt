@@ -10,6 +10,7 @@ ghost use Rattle.day_facts.specs.Own.{code_in, noted, own_of, place_in};
 use crate::places::or_here;
 use cash_amounts::{LinePlace, Memory, MessageNumber};
 use commit_journal::{Code, Head, Kind};
+use refused_memory::with_capacity;
 use std::alloc::Global;
 use std::marker::Model;
 
@@ -140,7 +141,7 @@ impl OwnTable {
     pub fn with_room(alloc: Global, most: u32) -> Result<OwnTable, Memory>
         ensures { IfOk result (λ table. table ≡ record { items = []; room = most }) }
     {
-        let items = Vec::with_capacity(alloc, most as usize)?;
+        let items = with_capacity(alloc, most as usize)?;
         Ok(OwnTable { items })
     }
 

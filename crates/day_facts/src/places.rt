@@ -2,6 +2,7 @@
 ghost use Rattle.std.specs.Prelude.{◌≡◌, ◌+◌, ◌<◌, ◌≤◌, ◌++◌, [], None, Some, map, vec_capacity, vec_len, IfOk};
 ghost use Rattle.std.specs.List.{range_with_len};
 ghost use Rattle.std.specs.Option.{option_or};
+ghost use Rattle.refused_memory.specs.declared.lists.TheConstants.{MOST};
 ghost use Rattle.machine.specs.Words.{when};
 ghost use Rattle.day_facts.specs.Listed.{row_pushed, with_rows};
 ghost use Rattle.day_facts.specs.Lists.{at, changed, placed};
@@ -9,6 +10,7 @@ ghost use Rattle.rule_book.specs.Rows.{Rises, cut};
 ghost use Rattle.day_facts.specs.Rows.{place_at};
 
 use cash_amounts::{EntryNumber, LinePlace, Memory, MessageNumber};
+use refused_memory::with_capacity;
 use rule_book::rows::spot;
 use std::alloc::Global;
 use std::marker::Model;
@@ -159,11 +161,12 @@ impl Model for PlaceRows {
 impl PlaceRows {
     // No rows, with room for so many, and for so many items in all of them.
     pub fn with_room(alloc: Global, rows: usize, items: usize) -> Result<PlaceRows, Memory>
+        requires { (rows ≤ MOST) × (items ≤ MOST) }
         ensures { IfOk result (λ r.
             r ≡ record { rows = []; room_for_rows = rows; room_for_items = items }) }
     {
-        let ends = Vec::with_capacity(alloc, rows)?;
-        let items = Vec::with_capacity(alloc, items)?;
+        let ends = with_capacity(alloc, rows)?;
+        let items = with_capacity(alloc, items)?;
         Ok(PlaceRows { ends, items })
     }
 

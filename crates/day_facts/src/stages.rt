@@ -6,6 +6,7 @@ ghost use Rattle.day_facts.specs.Phasing.{stage_in};
 ghost use Rattle.day_facts.specs.declared.stages.Stage.TheVariants as stages;
 
 use cash_amounts::{Memory, MessageNumber};
+use refused_memory::with_capacity;
 use std::alloc::Global;
 use std::marker::Model;
 
@@ -57,7 +58,7 @@ impl StageTable {
     pub fn with_room(alloc: Global, most: u32) -> Result<StageTable, Memory>
         ensures { IfOk result (λ table. table ≡ record { items = []; room = most }) }
     {
-        let items = Vec::with_capacity(alloc, most as usize)?;
+        let items = with_capacity(alloc, most as usize)?;
         Ok(StageTable { items })
     }
 

@@ -14,6 +14,7 @@ use crate::places::or_here;
 use batch_records::RecordBody;
 use cash_amounts::{LinePlace, Memory, MessageNumber};
 use commit_journal::{Code, Head, Kind};
+use refused_memory::with_capacity;
 use rule_book::Setting;
 use rule_book::parts::message;
 use std::alloc::Global;
@@ -136,7 +137,7 @@ impl ToldTable {
     pub fn with_room(alloc: Global, most: u32) -> Result<ToldTable, Memory>
         ensures { IfOk result (λ table. table ≡ record { items = []; room = most }) }
     {
-        let items = Vec::with_capacity(alloc, most as usize)?;
+        let items = with_capacity(alloc, most as usize)?;
         Ok(ToldTable { items })
     }
 

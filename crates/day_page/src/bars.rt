@@ -13,6 +13,7 @@ use crate::past::Past;
 use crate::words::Request;
 use batch_records::Entry;
 use cash_amounts::Memory;
+use refused_memory::push;
 use rule_book::parts::{entries, message_count, move_of};
 use rule_book::sorts::is_batch;
 use rule_book::{Phase, Setting};
@@ -96,7 +97,7 @@ pub fn put_marks(past: &Past, bars: &[u32], marks: &mut Vec<Mark>) -> Result<(),
         (oldest past.now.journal.now.history past.now.place)) }
 {
     for n in bars {
-        marks.push(mark_at(past, *n))?;
+        push(marks, mark_at(past, *n))?;
     }
     Ok(())
 }
@@ -143,7 +144,7 @@ fn put_change(n: u32, before: Phase, mark: &Mark, changes: &mut Vec<Mark>) -> Re
         ≡ changes.old.items ++ (if is_change n before mark.now then mark.now ∷ [] else [])) }
 {
     if is_change(n, before, mark) {
-        changes.push(*mark)?;
+        push(changes, *mark)?;
         return Ok(mark.phase);
     }
     Ok(before)

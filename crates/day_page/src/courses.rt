@@ -21,6 +21,7 @@ use crate::extents::{Extent, first_extents, held_at, note_line};
 use crate::members::{came, counts_of, gone};
 use cash_amounts::Memory;
 use commit_journal::{Head, Journal, Kind};
+use refused_memory::push;
 use row_list::RowList;
 use rule_book::Setting;
 use rule_book::parts::opening;
@@ -198,7 +199,7 @@ fn note_stop(
         ++ (if leaves_slot at.clock head then map (held_in extents.now) shown.now ∷ [] else [])) }
 {
     if leaves_slot(at.clock, head) {
-        points.push(total_point(at))?;
+        push(points, total_point(at))?;
         put_helds(extents, shown, helds)?;
     }
     Ok(())
@@ -292,18 +293,24 @@ fn put_points(
 {
     for stop in 0..stops {
         let clock = clock_of(points, stop);
-        points.push(Point {
-            account: shown[index],
-            clock,
-            cents: u128::from(held_at_stop(helds, stop, index)),
-        })?;
+        push(
+            points,
+            Point {
+                account: shown[index],
+                clock,
+                cents: u128::from(held_at_stop(helds, stop, index)),
+            },
+        )?;
     }
     let clock = clock_of(points, stops);
-    points.push(Point {
-        account: shown[index],
-        clock,
-        cents: extent.held,
-    })?;
+    push(
+        points,
+        Point {
+            account: shown[index],
+            clock,
+            cents: extent.held,
+        },
+    )?;
     Ok(())
 }
 
@@ -346,7 +353,7 @@ fn put_course(
         ++ series setting.now.day shown.now journal.now.history (slice_index shown.now index)) }
 {
     let extent = extent_at(extents, shown[index]);
-    courses.push(course_of(setting, shown[index], extent))?;
+    push(courses, course_of(setting, shown[index], extent))?;
     put_points(setting, journal, shown, index, stops, helds, extent, points)?;
     Ok(())
 }
@@ -409,14 +416,17 @@ fn put_total(
         ≡ points.old.items
         ++ record { account = 0; clock = at.clock; cents = at.held } ∷ []) }
 {
-    courses.push(Course {
-        account: 0,
-        opening: total_opening(setting, shown),
-        lowest: at.lowest,
-        highest: at.highest,
-        closing: at.held,
-    })?;
-    points.push(total_point(at))?;
+    push(
+        courses,
+        Course {
+            account: 0,
+            opening: total_opening(setting, shown),
+            lowest: at.lowest,
+            highest: at.highest,
+            closing: at.held,
+        },
+    )?;
+    push(points, total_point(at))?;
     Ok(())
 }
 

@@ -9,6 +9,7 @@ ghost use Rattle.day_page.specs.Extents.{credited_by, debited_by, held_in, lower
 
 use cash_amounts::Memory;
 use commit_journal::{Journal, Move};
+use refused_memory::push;
 use rule_book::Setting;
 use rule_book::parts::{account_count, opening};
 use std::alloc::Global;
@@ -40,7 +41,7 @@ pub fn first_extents(alloc: Global, setting: &Setting) -> Result<Vec<Extent>, Me
 {
     let mut extents = Vec::new(alloc);
     for before in 0..account_count(setting) {
-        extents.push(opened(setting, before + 1))?;
+        push(&mut extents, opened(setting, before + 1))?;
     }
     Ok(extents)
 }

@@ -12,6 +12,7 @@ use crate::waits::{Queue, cents_of, has_priority, one_if, waits};
 use crate::words::Request;
 use cash_amounts::Memory;
 use due_items::DueItems;
+use refused_memory::push;
 use rule_book::Setting;
 use rule_book::sorts::is_b;
 use std::alloc::Global;
@@ -83,7 +84,7 @@ fn no_stakes(alloc: Global, count: u32) -> Result<Vec<u128>, Memory>
 {
     let mut stakes = Vec::new(alloc);
     for _i in 0..count {
-        stakes.push(0)?;
+        push(&mut stakes, 0)?;
     }
     Ok(stakes)
 }

@@ -1,5 +1,6 @@
 //! What the members of a row hold together, kept by what the lines move.
 ghost use Rattle.std.specs.Prelude.{◌≡◌, ◌≤◌, ◌+◌, ◌*◌, ◌^◌, [], ℕ, IfOk, length, replicate, slice_index, sum_by};
+ghost use Rattle.refused_memory.specs.declared.lists.TheConstants.{MOST};
 ghost use Rattle.cash_amounts.specs.declared.limits.TheConstants.{MAX_ACCOUNTS};
 ghost use Rattle.machine.specs.Orders.Bounds.{move_limit};
 ghost use Rattle.day_facts.specs.Lists.{change_at};
@@ -7,6 +8,7 @@ ghost use Rattle.day_page.specs.Members.{brought, counted, once_more, taken};
 
 use cash_amounts::Memory;
 use commit_journal::Move;
+use refused_memory::filled;
 use rule_book::Setting;
 use rule_book::parts::account_count;
 use std::alloc::Global;
@@ -37,9 +39,10 @@ fn count_all(counts: &mut [u32], members: &[u32])
 
 // So many accounts, of which none is counted.
 fn no_counts(alloc: Global, count: usize) -> Result<Vec<u32>, Memory>
+    requires { count ≤ MOST }
     ensures { IfOk result (λ counts. counts.items ≡ replicate count 0) }
 {
-    Ok(vec![in alloc; 0; count]?)
+    filled(alloc, 0, count)
 }
 
 /// How often each account is a member, by its number, from 0 on. `Memory` says that there wasn't enough of it.

@@ -10,6 +10,7 @@ use crate::parties::owns_dca;
 use crate::words::Request;
 use cash_amounts::{MAX_ACCOUNTS, Memory};
 use commit_journal::{Journal, Move};
+use refused_memory::{filled, push};
 use rule_book::Setting;
 use rule_book::parts::account_count;
 use std::alloc::Global;
@@ -49,7 +50,7 @@ fn add_all(sums: &mut [u128], moves: &[Move])
 fn no_sums(alloc: Global, count: u32) -> Result<Vec<u128>, Memory>
     ensures { IfOk result (λ sums. sums.items ≡ replicate count 0) }
 {
-    Ok(vec![in alloc; 0; count as usize]?)
+    filled(alloc, 0, count as usize)
 }
 
 // What all moves of the journal did to each account, by its number.
@@ -85,7 +86,7 @@ fn movers(
     let mut movers = Vec::new(alloc);
     for before in 0..account_count(setting) {
         let cents = sums[before as usize];
-        movers.push(mover_of(setting, request, before + 1, cents))?;
+        push(&mut movers, mover_of(setting, request, before + 1, cents))?;
     }
     Ok(movers)
 }
@@ -126,7 +127,7 @@ pub fn push_if(list: &mut Vec<u32>, test: bool, number: u32) -> Result<(), Memor
         ≡ list.old.items ++ (if test then number ∷ [] else [])) }
 {
     if test {
-        list.push(number)?;
+        push(list, number)?;
     }
     Ok(())
 }

@@ -21,6 +21,7 @@ use cash_amounts::Memory;
 use commit_journal::{Head, Journal};
 use day_facts::{DayFacts, note_at};
 use due_items::DueItems;
+use refused_memory::push;
 use rule_book::Setting;
 use std::alloc::Global;
 
@@ -96,7 +97,7 @@ fn put_before(
         (oldest past.now.journal.now.history past.now.place) ∷ [] else [])) }
 {
     if leaves_slot(past.clock(), head) {
-        waits.push(waiting_at(past, request, ledger))?;
+        push(waits, waiting_at(past, request, ledger))?;
     }
     Ok(())
 }
@@ -236,7 +237,7 @@ fn run_out(
         place: journal.len(),
         facts,
     };
-    waits.push(waiting_at(&past, request, ledger))?;
+    push(waits, waiting_at(&past, request, ledger))?;
     Ok(top)
 }
 
@@ -321,6 +322,6 @@ pub fn tides_of(
             drop(due);
             tides
         }
-        Err(_) => Err(Memory),
+        Err(memory) => Err(memory),
     }
 }

@@ -91,7 +91,7 @@ fn tides_and_bars(
             drop(facts);
             made
         }
-        Err(_) => Err(Memory),
+        Err(memory) => Err(memory),
     }
 }
 
@@ -154,10 +154,10 @@ pub fn watch_all(
     let (tides, bars) = tides_and_bars(alloc, setting, request, journal)?;
     match DayFacts::with_room(alloc, setting) {
         Ok(facts) => watched_with(alloc, setting, request, journal, tides, bars, facts),
-        Err(_) => {
+        Err(memory) => {
             drop(tides);
             drop(bars);
-            Err(Memory)
+            Err(memory)
         }
     }
 }

@@ -1,6 +1,7 @@
 //! A disk in memory, which keeps all that was written, so that the images of each earlier moment are known.
 ghost use Rattle.std.specs.Prelude.{◌≡◌, ℕ, ◌+◌, ◌^◌, ◌<◌, ◌≤◌, ◌&&◌, length, take, drop, vec_len, vec_capacity, nat_lt, nat_le, is_ok, IfOk, OnErr, OnOk, ⊤};
 ghost use Rattle.std.proofs.Common.{inl};
+ghost use Rattle.refused_memory.specs.declared.lists.TheConstants.{MOST};
 ghost use Rattle.outside_io.specs.Causes.{CountsFaults};
 ghost use Rattle.disk_model.specs.Crashes.{overwritten, AddsNone, Follows, Torn, Only, Elapses};
 ghost use Rattle.disk_model.specs.Cut.{IsCut, once};
@@ -10,6 +11,7 @@ ghost use Rattle.disk_model.specs.Memory.{CutAfter, MemoryDisk, LastsFor, cut_fo
 use crate::Disk;
 use cash_amounts::Memory;
 use outside_io::Failed;
+use refused_memory::{copied, reserve, with_capacity};
 use std::alloc::Global;
 use std::marker::Model;
 
@@ -93,13 +95,14 @@ impl MemDisk {
         records: usize,
         passes: u32,
     ) -> Result<MemDisk, Memory>
+        requires { (room ≤ MOST) × (records ≤ MOST) }
         ensures { IfOk result (λ disk. disk ≡ new_disk bytes.items room records passes) }
     {
-        let first = bytes.to_vec(alloc)?;
-        let pieces = Vec::with_capacity(alloc, room)?;
-        let done = Vec::with_capacity(alloc, records)?;
+        let first = copied(alloc, &bytes)?;
+        let pieces = with_capacity(alloc, room)?;
+        let done = with_capacity(alloc, records)?;
         let mut bytes = bytes;
-        bytes.reserve(room)?;
+        reserve(&mut bytes, room)?;
         Ok(MemDisk {
             first,
             bytes,

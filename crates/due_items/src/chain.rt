@@ -8,6 +8,7 @@ ghost use Rattle.due_items.specs.Pages.{ArePages, row_at, rows_in};
 
 use batch_records::RecordBody;
 use cash_amounts::{Memory, MessageNumber};
+use refused_memory::{filled, with_capacity};
 use rule_book::Setting;
 use rule_book::parts::{earliest, info_end, message, stated_end};
 use rule_book::sorts::is_c;
@@ -163,7 +164,7 @@ fn row(top: &[u32], pages: &[u32], key: u32) -> u32
 fn no_pages(alloc: Global) -> Result<Vec<u32>, Memory>
     ensures { IfOk result (λ top. top.items ≡ replicate 338 0) }
 {
-    Ok(vec![in alloc; 0u32; 338]?)
+    filled(alloc, 0u32, 338)
 }
 
 // By key the last message that has it so far, or 0. The rows of 256 seconds are a page, which is made once one of them is set, so that
@@ -192,7 +193,7 @@ impl Newest {
         ensures { IfOk result (λ newest. newest ≡ map (λ i. 0) (range_with_len 0 86401)) }
     {
         let top = no_pages(alloc)?;
-        let pages = Vec::with_capacity(alloc, 338 * 256)?;
+        let pages = with_capacity(alloc, 338 * 256)?;
         Ok(Newest { top, pages })
     }
 
@@ -247,7 +248,7 @@ impl Chain {
     pub fn empty(alloc: Global, room: u32) -> Result<Chain, Memory>
         ensures { IfOk result (λ chain. chain ≡ no_chain room) }
     {
-        let older = Vec::with_capacity(alloc, room as usize)?;
+        let older = with_capacity(alloc, room as usize)?;
         let newest = Newest::new(alloc)?;
         Ok(Chain {
             newest,

@@ -102,14 +102,12 @@ impl DueItems {
     }
 
     /// Of no messages and no lines, of any day, with room for so many messages, with so many entries in all. All memory is taken here, and
-    /// `Memory` says that there wasn't that much, or that no day has so many.
+    /// `Memory` says that there wasn't that much.
     pub fn empty(alloc: Global, messages: u32, entries: u32) -> Result<DueItems, Memory>
+        requires { messages + entries < 2 ^ 32 }
         ensures empty { (day : Day) → IfOk result (λ due. KeepsDue (setup day) [] due) }
         ensures room { IfOk result (λ due. HasRoom messages entries due) }
     {
-        if u32::MAX - messages < entries {
-            return Err(Memory);
-        }
         let room = Room {
             messages,
             items: messages + entries,

@@ -7,6 +7,7 @@ ghost use Rattle.machine.specs.Stages.Pending.{item};
 ghost use Rattle.due_items.specs.Row.{HasRoomFor, IsNumber, IsPlace, IsRowOf, items_kept, no_row, row_upto, spent};
 
 use cash_amounts::{EntryNumber, Memory, MessageNumber};
+use refused_memory::with_capacity;
 use rule_book::parts::entry_count;
 use rule_book::{Item, Setting};
 use std::alloc::Global;
@@ -94,9 +95,9 @@ impl ItemRow {
     pub fn empty(alloc: Global, room: Room) -> Result<ItemRow, Memory>
         ensures { IfOk result (λ row. row ≡ no_row room) }
     {
-        let mut starts = Vec::with_capacity(alloc, room.messages as usize + 1)?;
+        let mut starts = with_capacity(alloc, room.messages as usize + 1)?;
         starts.push_reserved(0);
-        let messages = Vec::with_capacity(alloc, room.items as usize)?;
+        let messages = with_capacity(alloc, room.items as usize)?;
         Ok(ItemRow {
             starts,
             messages,

@@ -12,6 +12,7 @@ use Rattle.machine.specs.Legal.{IsLegal}
 use Rattle.settlement_laws.proofs.DayEnd.LineBound.{length-bound}
 use Rattle.settlement_laws.proofs.DayEnd.MoveBound.{moved-bound}
 use Rattle.settlement_laws.proofs.Base.SoundParts.{few_lines}
+use Rattle.refused_memory.specs.declared.memory.Memory.{Memory}
 use Rattle.disk_model.specs.Cut.{IsCut, once}
 use Rattle.disk_model.specs.Lasting.{StillLasts}
 use Rattle.disk_model.specs.Runs.{OnlyLooks}
@@ -383,12 +384,12 @@ fault_says old new calls status day rest disk later fault sound made is looks cu
     (record { status = 8; text = disk_seen later }, inr (inl (refl, not_opened day sound rest calls (disk_seen later) bytes (bytes ∙ sym (made_once calls rest made.enough)) few)), said)
 
 -- memory was wanting, and no call failed
-pub unfailed : (calls changes bytes : ℕ) (day : Day) (rest : List ℕ) (disk later : MemoryDisk) (fault : OpenFault MemoryDisk) → IsMadeOf calls changes bytes rest disk → fault ≡ open_faults.Memory later → Opens disk_seen disk_image failures day disk (Err fault) → later.faults ≡ 0
-unfailed calls changes bytes day rest disk later fault made is opens = subst (λ (f : OpenFault MemoryDisk). Opens disk_seen disk_image failures day disk (Err f)) is opens ∙ made.none
+pub unfailed : (calls changes bytes : ℕ) (day : Day) (rest : List ℕ) (disk later : MemoryDisk) (memory : Memory) (fault : OpenFault MemoryDisk) → IsMadeOf calls changes bytes rest disk → fault ≡ open_faults.Memory later memory → Opens disk_seen disk_image failures day disk (Err fault) → later.faults ≡ 0
+unfailed calls changes bytes day rest disk later memory fault made is opens = subst (λ (f : OpenFault MemoryDisk). Opens disk_seen disk_image failures day disk (Err f)) is opens ∙ made.none
 
 pub says_or_back : {S : Type 0} (state : S → SinkState) (old new : S) (Is : Answer → Type 0) (ended : Result ℕ MemoryDisk) → SaysOneOrBack state old new Is ended → SaysOneIfRoom state old new Is (status_of ended)
 says_or_back state old new Is (Ok status) said = inr said
-says_or_back state old new Is (Err disk) back = inl (refl, back.1)
+says_or_back state old new Is (Err disk) back = inl (refl, back.1, back.2)
 
 foreign_over : (old new : SinkState) (r : Request) (place status : ℕ) (day : Day) (rest : List ℕ) (disk later : MemoryDisk) (fault : OpenFault MemoryDisk) → is_sound day ≡ true → disk_seen disk ≡ store_of rest → fault ≡ open_faults.Foreign later place → Opens disk_seen disk_image failures day disk (Err fault) → (is_closed (front day (store_of rest)).1 ≡ false → NoneFails r day rest) →
     Says old new (record { status = 9; text = foreign_text place }) status → SaysOne old new (AnswersOver r day rest) status

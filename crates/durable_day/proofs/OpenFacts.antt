@@ -50,7 +50,7 @@ opens_from seen image count day disk mid (Ok store) same kept is = (is.0, is.1, 
 opens_from seen image count day disk mid (Err (open_faults.Fault later)) same kept is = is ∙ ap one_more kept
 opens_from seen image count day disk mid (Err (open_faults.Foreign later place)) same kept is =
     (subst (StandsForNone day) same is.0, is.1 ∙ ap (λ (xs : List ℕ). suc (length (front day xs).0)) same, is.2 ∙ kept)
-opens_from seen image count day disk mid (Err (open_faults.Memory later)) same kept is = is ∙ kept
+opens_from seen image count day disk mid (Err (open_faults.Memory later memory)) same kept is = is ∙ kept
 
 pub finds_same : (day : Day) (xs ys : List ℕ) → xs ≡ ys → finding_time day xs ≡ finding_time day ys
 finds_same day xs ys same = ap (finding_time day) same
@@ -66,4 +66,4 @@ pub cuts_from : {D : Type 0} (seen : D → List ℕ) (cut_after : D → ℕ → 
 cuts_from seen cut_after less day disk mid (Ok store) same first second = synced_cut seen cut_after less day disk mid store.disk true same first second
 cuts_from seen cut_after less day disk mid (Err (open_faults.Fault later)) same first second = synced_cut seen cut_after less day disk mid later false same first second
 cuts_from seen cut_after less day disk mid (Err (open_faults.Foreign later place)) same first second = synced_cut seen cut_after less day disk mid later true same first second
-cuts_from seen cut_after less day disk mid (Err (open_faults.Memory later)) same first second = tt
+cuts_from seen cut_after less day disk mid (Err (open_faults.Memory later memory)) same first second = tt

@@ -1,5 +1,6 @@
 -- The disk in memory on which a run works, from step to step.
 use Rattle.std.specs.Prelude.{ℕ, ◌≡◌, ◌⊎◌, ◌+◌, ◌*◌, ◌-◌, ◌/◌, ◌<◌, ◌≤◌, List, Result, Ok, Err}
+use Rattle.refused_memory.specs.{WasRefused}
 use Rattle.batch_records.specs.DayRecord.{Day}
 use Rattle.commit_journal.specs.Line.{History}
 use Rattle.machine.specs.Orders.Bounds.{most_lines, most_moves}
@@ -53,10 +54,10 @@ pub record IsOnTheWay (calls : ℕ) (day : Day) (J : History) (bytes text : List
 abbrev pub RunsOut : ℕ → Day → History → List ℕ → Answer → Type 0
 RunsOut calls day J bytes answer = ((answer.status ≡ 0) × IsAtItsEnd calls day J bytes answer.text) ⊎ ((answer.status ≡ 8) × IsOnTheWay calls day J bytes answer.text)
 
--- An answer of these is given. Or memory is wanting: the disk is handed back, no call of it has failed, and the sink is left as it is.
+-- An answer of these is given. Or a request for memory was refused: the disk is handed back, no call of it has failed, and the sink is left as it is.
 abbrev pub SaysOneOrBack : {S : Type 0} → (S → SinkState) → S → S → (Answer → Type 0) → Result ℕ MemoryDisk → Type 0
 SaysOneOrBack state old new Is (Ok status) = SaysOne (state old) (state new) Is status
-SaysOneOrBack state old new Is (Err disk) = (disk.faults ≡ 0) × (new ≡ old)
+SaysOneOrBack state old new Is (Err disk) = (disk.faults ≡ 0) × (new ≡ old) × WasRefused
 
 abbrev pub status_of : Result ℕ MemoryDisk → ℕ
 status_of (Ok status) = status

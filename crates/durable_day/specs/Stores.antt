@@ -48,7 +48,7 @@ abbrev pub disk_of : {D : Type 0} → Result (OnStore D) (OpenFault D) → D
 disk_of (Ok store) = store.disk
 disk_of (Err (open_faults.Fault disk)) = disk
 disk_of (Err (open_faults.Foreign disk place)) = disk
-disk_of (Err (open_faults.Memory disk)) = disk
+disk_of (Err (open_faults.Memory disk memory)) = disk
 
 -- The journal is that of the bytes; or a call of the disk failed, the last and the only one; or the bytes stand for no legal
 -- journal, and this is the first place at which no line of one stands; or memory was wanting.
@@ -58,7 +58,7 @@ Opens seen image count day disk (Ok store) =
 Opens seen image count day disk (Err (open_faults.Fault later)) = count later ≡ one_more (count disk)
 Opens seen image count day disk (Err (open_faults.Foreign later place)) =
     StandsForNone day (seen disk) × (place ≡ suc (length (front day (seen disk)).0)) × (count later ≡ count disk)
-Opens seen image count day disk (Err (open_faults.Memory later)) = count later ≡ count disk
+Opens seen image count day disk (Err (open_faults.Memory later memory)) = count later ≡ count disk
 
 -- how many calls of the disk an opening takes: a sync, and the reads that find the journal
 abbrev pub opening_time : Day → List ℕ → ℕ
@@ -70,4 +70,4 @@ abbrev pub CutsOpening : {D : Type 0} → (D → List ℕ) → (D → ℕ → �
 CutsOpening seen cut_after disk calls syncs (Ok store) = IsCut seen cut_after disk store.disk true calls syncs 0 (λ (k : ℕ). seen disk)
 CutsOpening seen cut_after disk calls syncs (Err (open_faults.Fault later)) = IsCut seen cut_after disk later false calls syncs 0 (λ (k : ℕ). seen disk)
 CutsOpening seen cut_after disk calls syncs (Err (open_faults.Foreign later place)) = IsCut seen cut_after disk later true calls syncs 0 (λ (k : ℕ). seen disk)
-CutsOpening seen cut_after disk calls syncs (Err (open_faults.Memory later)) = Unit {0}
+CutsOpening seen cut_after disk calls syncs (Err (open_faults.Memory later memory)) = Unit {0}

@@ -1,5 +1,7 @@
 //! Why a store isn't open.
 
+use cash_amounts::Memory;
+
 /// Why a store isn't open. The disk is handed back; nothing was written on it.
 #[derive(Drop)]
 pub enum OpenFault<D> {
@@ -8,5 +10,5 @@ pub enum OpenFault<D> {
     /// The bytes of the disk stand for no legal journal of the day. At this place, counted from 1, no line of one stands.
     Foreign { disk: D, place: u32 },
     /// Memory was wanting.
-    Memory { disk: D },
+    Memory { disk: D, memory: Memory },
 }

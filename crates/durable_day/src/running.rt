@@ -1,5 +1,6 @@
 //! What is answered over a day and the bytes after it.
-ghost use Rattle.std.specs.Prelude.{◌≡◌, ℕ, ◌+◌, ◌*◌, List, length, is_ok, IfOk};
+ghost use Rattle.std.specs.Prelude.{◌≡◌, ◌≤◌, ℕ, ◌+◌, ◌*◌, List, length, is_ok, IfOk};
+ghost use Rattle.refused_memory.specs.declared.lists.TheConstants.{MOST};
 ghost use Rattle.outside_io.specs.Calls.{Puts};
 ghost use Rattle.machine.specs.Orders.Bounds.{most_lines};
 ghost use Rattle.disk_model.specs.Cut.{IsCut, once};
@@ -20,6 +21,7 @@ use commit_journal::Journal;
 use disk_model::{Disk, MemDisk};
 use outside_io::{Sink, put_all};
 use program_answers::{Rest, status_after};
+use refused_memory::copied;
 use rule_book::Setting;
 use std::alloc::Global;
 
@@ -64,9 +66,10 @@ fn disk_over(
     records: usize,
     passes: u32,
 ) -> Result<MemDisk, Memory>
+    requires { (room ≤ MOST) × (records ≤ MOST) }
     ensures { IfOk result (λ disk. disk ≡ new_disk rest room records passes) }
 {
-    let bytes = rest.as_slice().to_vec(alloc)?;
+    let bytes = copied(alloc, rest.as_slice())?;
     MemDisk::make(alloc, bytes, room, records, passes)
 }
 
@@ -122,7 +125,7 @@ fn run_opened<S: Sink>(
         Ok(store) => Ok(run_store(store, output)),
         Err(OpenFault::Fault { disk }) => Ok(say_disk(8, &disk, output)),
         Err(OpenFault::Foreign { disk: _, place }) => Ok(say_foreign(place, output)),
-        Err(OpenFault::Memory { disk }) => Err(disk),
+        Err(OpenFault::Memory { disk, .. }) => Err(disk),
     }
 }
 
@@ -186,7 +189,7 @@ fn show_opened<S: Sink>(alloc: Global, setting: Setting, disk: MemDisk, output: 
         Ok(store) => show_store(store, output),
         Err(OpenFault::Fault { disk: _ }) => unreachable!(),
         Err(OpenFault::Foreign { disk: _, place }) => say_foreign(place, output),
-        Err(OpenFault::Memory { disk: _ }) => 1,
+        Err(OpenFault::Memory { .. }) => 1,
     }
 }
 

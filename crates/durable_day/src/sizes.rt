@@ -1,5 +1,6 @@
 //! For how much a disk in memory needs room, so that the rest of the day finds it.
 ghost use Rattle.std.specs.Prelude.{◌≡◌, ◌≤◌, ◌+◌, ◌*◌};
+ghost use Rattle.refused_memory.specs.declared.lists.TheConstants.{MOST};
 ghost use Rattle.machine.specs.Orders.Bounds.{line_limit, most_lines, most_moves, move_limit};
 ghost use Rattle.durable_day.specs.Running.{most_bytes};
 
@@ -31,14 +32,16 @@ fn most_moves(setting: &Setting) -> usize
 
 /// How many bytes are written at most, that of a new store too.
 pub(crate) fn room_for(setting: &Setting) -> usize
-    ensures { result ≡ 1 + most_bytes setting.now.day }
+    ensures count { result ≡ 1 + most_bytes setting.now.day }
+    ensures few { result ≤ MOST }
 {
     1 + (70 * most_lines(setting) + 40 * most_moves(setting))
 }
 
 /// How many writes and syncs there are at most: two for a new store, one for the opening, and four for each line.
 pub(crate) fn records_for(setting: &Setting) -> usize
-    ensures { result ≡ 3 + 4 * most_lines setting.now.day }
+    ensures count { result ≡ 3 + 4 * most_lines setting.now.day }
+    ensures few { result ≤ MOST }
 {
     3 + 4 * most_lines(setting)
 }

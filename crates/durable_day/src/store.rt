@@ -22,6 +22,7 @@ use account_book::OneTill;
 use cash_amounts::Memory;
 use commit_journal::{MAX_MOVES, MoveList};
 use disk_model::Disk;
+use refused_memory::filled;
 use rule_book::Setting;
 use settle_floor::Floor;
 use std::alloc::Global;
@@ -69,7 +70,7 @@ fn new_kit(alloc: Global, setting: &Setting) -> Result<Kit, Memory>
 {
     let till = OneTill::open(alloc, &setting.book)?;
     let moves = MoveList::with_room(alloc, MAX_MOVES)?;
-    let room = vec![in alloc; 0u8; ROOM_SIZE]?;
+    let room = filled(alloc, 0u8, ROOM_SIZE)?;
     Ok(Kit { till, moves, room })
 }
 
@@ -178,10 +179,10 @@ fn find_by<D: Disk>(
 {
     match new_kit(alloc, &setting) {
         Ok(kit) => found(setting, floor, kit, disk),
-        Err(_) => {
+        Err(memory) => {
             let_go(floor);
             drop(setting);
-            Err(OpenFault::Memory { disk })
+            Err(OpenFault::Memory { disk, memory })
         }
     }
 }
@@ -199,9 +200,9 @@ fn find<D: Disk>(alloc: Global, setting: Setting, disk: D) -> Result<Store<D>, O
 {
     match new_floor(alloc, &setting) {
         Ok(floor) => find_by(alloc, setting, floor, disk),
-        Err(_) => {
+        Err(memory) => {
             drop(setting);
-            Err(OpenFault::Memory { disk })
+            Err(OpenFault::Memory { disk, memory })
         }
     }
 }

@@ -57,7 +57,7 @@ fn answer_bytes<S: Sink>(alloc: Global, request: Request, bytes: Vec<u8>, output
     match day_and_rest(alloc, bytes) {
         Ok((day, rest)) => answer_day(alloc, request, day, rest, output),
         Err(DayFault::Record { number, code }) => refuse(number, code, output),
-        Err(DayFault::Memory) => 1,
+        Err(DayFault::Memory(_)) => 1,
     }
 }
 

@@ -12,6 +12,7 @@ use crate::record::Record;
 use cash_amounts::Memory;
 use disk_model::Disk;
 use outside_io::Failed;
+use refused_memory::extend_from_slice;
 use std::fs::File;
 use std::marker::Model;
 use std::os::unix::fs::FileExt;
@@ -53,10 +54,9 @@ fn overwrite(bytes: &mut Vec<u8>, at: usize, piece: &[u8]) -> Result<(), Memory>
     ensures bytes { OnOk result (bytes.new.items ≡ overwritten at piece.now bytes.old.items) }
     ensures kept { OnErr result (bytes.new.items ≡ bytes.old.items) }
 {
-    bytes.reserve(piece.len())?;
     let inside = (bytes.len() - at).min(piece.len());
+    extend_from_slice(bytes, &piece[inside..])?;
     bytes[at..at + inside].copy_from_slice(&piece[..inside]);
-    bytes.extend_from_slice(&piece[inside..]).unwrap();
     Ok(())
 }
 

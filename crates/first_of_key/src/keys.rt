@@ -1,5 +1,6 @@
 //! Keys in the order in which they are entered. Contracts see them as a list, with the number of keys that there can be.
 ghost use Rattle.std.specs.Prelude.{◌≡◌, ◌<◌, ◌≤◌, ◌+◌, ◌++◌, [], ◌∷◌, IfOk, length, map, replicate, slice_get, vec_len, vec_capacity};
+ghost use Rattle.refused_memory.specs.declared.lists.TheConstants.{MOST};
 ghost use Rattle.first_of_key.specs.declared.node.TheConstants.{NONE};
 ghost use Rattle.first_of_key.specs.Paths.{tree, IsSearchable, IsEnd};
 ghost use Rattle.first_of_key.specs.Sides.{IsWhole};
@@ -9,6 +10,7 @@ use crate::Key;
 use crate::node::{NONE, Node, Place, hang, leaf, number};
 use crate::search::end;
 use cash_amounts::Memory;
+use refused_memory::{filled, with_capacity};
 use std::alloc::Global;
 use std::marker::Model;
 
@@ -23,9 +25,10 @@ pub struct FirstKeys {
 
 // So many heads that lead nowhere.
 fn no_heads(alloc: Global, count: usize) -> Result<Vec<u32>, Memory>
+    requires { count ≤ MOST }
     ensures { IfOk result (λ heads. heads.items ≡ replicate count NONE) }
 {
-    Ok(vec![in alloc; NONE; count]?)
+    filled(alloc, NONE, count)
 }
 
 // A key after the others, where a search for it has ended at this place.
@@ -62,7 +65,7 @@ impl FirstKeys {
         ensures { IfOk result (λ keys. keys ≡ record { keys = []; most = most }) }
     {
         let heads = no_heads(alloc, most as usize / 2 + 1)?;
-        let nodes = Vec::with_capacity(alloc, most as usize)?;
+        let nodes = with_capacity(alloc, most as usize)?;
         Ok(FirstKeys { heads, nodes, most })
     }
 

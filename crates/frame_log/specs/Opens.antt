@@ -20,4 +20,4 @@ module _ {D : Type 0} (seen : D → List ℕ) (image : D → List ℕ → Type 0
   Opens disk (kinds.Foreign later frame) = (foreign_in (seen disk) ≡ Some frame) × (0 < length (seen disk)) × WasLookedAt disk later
   Opens disk (kinds.Fault later) = (faults later ≡ one_more (faults disk)) × WasLookedAt disk later
   Opens disk (kinds.Size later) = WasLookedAt disk later
-  Opens disk (kinds.Memory later) = WasLookedAt disk later
+  Opens disk (kinds.Memory later memory) = WasLookedAt disk later

@@ -10,6 +10,7 @@ use crate::reading::{Kept, KeptText, read_text};
 use disk_model::Disk;
 use gated_disk::put_down;
 use outside_io::ReadEnd;
+use refused_memory::Memory;
 use std::alloc::Global;
 
 /// What an opening finds on a disk.
@@ -24,7 +25,7 @@ pub enum Opened<D: Disk> {
     /// The text is longer than the limit.
     Size { disk: D },
     /// Memory was wanting.
-    Memory { disk: D },
+    Memory { disk: D, memory: Memory },
 }
 
 // A new log on an empty disk.
@@ -66,7 +67,7 @@ fn find<D: Disk>(alloc: Global, disk: D, limit: usize) -> Opened<D>
         Ok(Kept::Foreign { frame }) => Opened::Foreign { disk, frame },
         Err(ReadEnd::Fault) => Opened::Fault { disk },
         Err(ReadEnd::Size) => Opened::Size { disk },
-        Err(ReadEnd::Memory) => Opened::Memory { disk },
+        Err(ReadEnd::Memory(memory)) => Opened::Memory { disk, memory },
     }
 }
 

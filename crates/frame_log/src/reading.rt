@@ -9,6 +9,7 @@ ghost use Rattle.frame_log.specs.Finding.{HasAdded, IsBody, IsFirstGate, IsFound
 use crate::frames::{FRONT, HEADER, MOST, digest_of, first_digest};
 use crate::reader::Reader;
 use outside_io::{Failed, ReadEnd};
+use refused_memory::extend_from_slice;
 use std::alloc::Global;
 
 /// A text that is kept, the digest of its last frame, and the place of its closed gate.
@@ -172,7 +173,7 @@ fn add(so_far: &mut SoFar, frame: &Frame, room: &[u8], limit: usize) -> Result<(
     if count > limit - so_far.kept.text.len() {
         return Err(ReadEnd::Size);
     }
-    so_far.kept.text.extend_from_slice(&room[..count])?;
+    extend_from_slice(&mut so_far.kept.text, &room[..count])?;
     so_far.kept.digest = frame.head.digest;
     so_far.kept.end += 37 + count as u64;
     so_far.frames += 1;

@@ -105,6 +105,6 @@ pub fn read_journal<'a>(
     let moves = MoveList::with_room(alloc, MAX_MOVES)?;
     match Floor::open(alloc, setting) {
         Ok(floor) => Ok(read_into(setting, floor.into_journal(), moves, text, count)),
-        Err(_) => Err(Memory),
+        Err(memory) => Err(memory),
     }
 }

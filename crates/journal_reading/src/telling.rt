@@ -153,7 +153,7 @@ fn answer_bytes<T: Telling, S: Sink>(
     match read_input(alloc, bytes) {
         Ok((day, rest)) => answer_day(telling, alloc, request, day, rest, output),
         Err(DayFault::Record { number, code }) => refuse(number, code, output),
-        Err(DayFault::Memory) => 1,
+        Err(DayFault::Memory(_)) => 1,
     }
 }
 

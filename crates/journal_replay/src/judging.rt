@@ -228,7 +228,7 @@ pub fn replay(alloc: Global, setting: &Setting, text: &[u8]) -> Result<Verdict, 
     let moves = MoveList::with_room(alloc, MAX_MOVES)?;
     match Floor::open(alloc, setting) {
         Ok(floor) => Ok(judged(setting, floor, till, moves, text)),
-        Err(_) => Err(Memory),
+        Err(memory) => Err(memory),
     }
 }
 

@@ -6,6 +6,7 @@ use Rattle.std.specs.Io.KnownBytes.{Appends, Consumes}
 use Rattle.outside_io.specs.Causes.{one_more}
 use Rattle.outside_io.specs.Pieces.{Moment, SinkState}
 use Rattle.outside_io.specs.declared.sink.Sink as sinks
+use Rattle.refused_memory.specs.{WasRefused}
 use Rattle.kept_port.specs.Kept.{kept_state}
 use Rattle.kept_port.specs.Keepers.{handed_on, keeper_state}
 use Rattle.kept_port.specs.Logs.{Finds}
@@ -270,11 +271,12 @@ text_in (Some text) = text
 
 module _ {P L : Type 0} {sink : sinks.Ghosts P} {log : logs.Ghosts L} where
   -- memory was wanting before the day began
-  pub none_kept : (old : KeptPort P L sink log) → IsFresh old → KeptPromises sink.state old old 1
-  none_kept old fresh = record {
+  pub none_kept : (old : KeptPort P L sink log) → IsFresh old → WasRefused → KeptPromises sink.state old old 1
+  none_kept old fresh cause = record {
     day = 1;
     is = refl;
     asked = inl refl;
+    refused = λ one. cause;
     sure = λ left known k was written wrote bytes image. absurd (new_none old.story old.keeper k fresh.begins was);
     together = joined;
   }
@@ -288,6 +290,7 @@ module _ {P L : Type 0} {sink : sinks.Ghosts P} {log : logs.Ghosts L} where
     day = day;
     is = is;
     asked = asked;
+    refused = keeps.refused;
     sure = λ left known. by asked left known;
     together = joined;
   }

@@ -1,5 +1,6 @@
 -- What a live day promises that is kept.
 use Rattle.std.specs.Prelude.{ℕ, ◌≡◌, ◌≤◌, ◌⊎◌, if◌then◌else◌, List, [], ◌++◌, length, take, drop, Some}
+use Rattle.refused_memory.specs.{WasRefused}
 use Rattle.outside_io.specs.Pieces.{SinkState}
 use Rattle.outside_io.specs.declared.sink.Sink as sinks
 use Rattle.kept_port.specs.Kept.{kept_state}
@@ -50,6 +51,8 @@ module _ {P L : Type 0} {sink : sinks.Ghosts P} {log : logs.Ghosts L} where
       pub is : status ≡ status_of day new.keeper.halt new.keeper.skip
       -- what the log has, and then what comes from below, is answered as by `run`
       pub asked : (day ≡ 1) ⊎ LivePromises (program_of Runs) (kept_run old new day)
+      -- and 1 has a cause: a request for memory was refused
+      pub refused : day ≡ 1 → WasRefused
       -- Whenever bytes were written, whatever a crash may leave then has a text that calls for all that was written.
       pub sure : (left : List ℕ) → (keeper_state state old.keeper).reading.left ≡ Some left
           → (keeper : Keeper P L log) → WasWritten new.story keeper

@@ -7,6 +7,7 @@ ghost use Rattle.lane_workers.specs.Senders.{lane_of};
 
 use crate::senders::lanes_of_messages;
 use cash_amounts::Memory;
+use refused_memory::{push, with_capacity};
 use rule_book::Setting;
 use rule_book::parts::message_count;
 use std::alloc::Global;
@@ -55,7 +56,7 @@ fn push_if(order: &mut Vec<u32>, n: u32, passes: bool) -> Result<(), Memory>
     ensures { OnOk result (order.new.items ≡ order.old.items ++ (if passes then n ∷ [] else [])) }
 {
     if passes {
-        order.push(n)?;
+        push(order, n)?;
     }
     Ok(())
 }
@@ -93,9 +94,9 @@ impl Stints {
     fn none(alloc: Global, setting: &Setting, workers: u32) -> Result<Stints, Memory>
         ensures { IfOk result (λ stints. HasStints setting.now.day workers 0 stints) }
     {
-        let order = Vec::with_capacity(alloc, message_count(setting) as usize)?;
+        let order = with_capacity(alloc, message_count(setting) as usize)?;
         let mut begins = Vec::new(alloc);
-        begins.push(0)?;
+        push(&mut begins, 0)?;
         Ok(Stints { order, begins })
     }
 
@@ -119,7 +120,7 @@ impl Stints {
         let first = first_of(setting, round);
         let end = first_of(setting, round + 1);
         add_messages(&mut self.order, lanes, lane, first, end)?;
-        self.begins.push(self.order.len())?;
+        push(&mut self.begins, self.order.len())?;
         Ok(())
     }
 
@@ -164,9 +165,9 @@ fn all_firsts(alloc: Global, setting: &Setting) -> Result<Vec<u32>, Memory>
         ≡ map (first_of setting.now.day) (range_with_len 0 (round_count setting.now.day))) }
 {
     let rounds = round_count(setting);
-    let mut firsts = Vec::with_capacity(alloc, rounds as usize)?;
+    let mut firsts = with_capacity(alloc, rounds as usize)?;
     for round in 0..rounds {
-        firsts.push(first_of(setting, round))?;
+        push(&mut firsts, first_of(setting, round))?;
     }
     Ok(firsts)
 }

@@ -9,6 +9,7 @@ ghost use Rattle.machine.specs.Words.{same_name};
 ghost use Rattle.lane_workers.specs.Senders.{lane_of, number_among, senders_of};
 
 use cash_amounts::{Memory, Name};
+use refused_memory::{insert, push, with_capacity};
 use rule_book::Setting;
 use std::alloc::Global;
 use std::collections::BTreeMap;
@@ -26,7 +27,7 @@ fn enter(numbers: &mut BTreeMap<Name, u32>, sender: &Name, next: u32) -> Result<
     if numbers.get(sender).is_some() {
         return Ok(next);
     }
-    numbers.insert(sender.copy(), next)?;
+    insert(numbers, sender.copy(), next)?;
     Ok(next + 1)
 }
 
@@ -66,9 +67,12 @@ pub(crate) fn lanes_of_messages(
 {
     let day = &setting.day;
     let numbers = number_senders(alloc, setting)?;
-    let mut lanes = Vec::with_capacity(alloc, day.message_count())?;
+    let mut lanes = with_capacity(alloc, day.message_count())?;
     for i in 0..day.message_count() {
-        lanes.push(number_of(&numbers, &day.message(i).sender) % workers)?;
+        push(
+            &mut lanes,
+            number_of(&numbers, &day.message(i).sender) % workers,
+        )?;
     }
     Ok(lanes)
 }

@@ -1,11 +1,12 @@
 //! A list of amounts, some of them absent. Contracts see it as that list.
 ghost use Rattle.std.specs.Prelude.{◌≡◌, ◌^◌, ◌<◌, ◌≤◌, IfOk, IfSome, Some, None, length, replicate, slice_set};
+ghost use Rattle.refused_memory.specs.declared.lists.TheConstants.{MOST};
 ghost use Rattle.least_tree.specs.Amounts.{amount_at, fits_at};
 ghost use Rattle.number_set.specs.Next.{IsNext};
 
 use crate::mending::mend;
 use crate::search::first;
-use cash_amounts::Memory;
+use refused_memory::{Memory, filled};
 use std::alloc::Global;
 use std::marker::Model;
 
@@ -21,9 +22,10 @@ pub struct LeastTree {
 
 // So many nodes without an amount.
 fn absent(alloc: Global, count: usize) -> Result<Vec<Option<u64>>, Memory>
+    requires { count ≤ MOST }
     ensures { IfOk result (λ nodes. nodes.items ≡ replicate count None) }
 {
-    Ok(vec![in alloc; None; count]?)
+    filled(alloc, None, count)
 }
 
 impl Model for LeastTree {

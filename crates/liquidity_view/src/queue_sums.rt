@@ -115,7 +115,7 @@ impl QueueSums {
                 due,
                 counted,
             }),
-            Err(_) => Err(Memory),
+            Err(memory) => Err(memory),
         }
     }
 

@@ -123,7 +123,7 @@ impl LiquidityView {
                 out: 0,
                 into: 0,
             }),
-            Err(_) => Err(Memory),
+            Err(memory) => Err(memory),
         }
     }
 

@@ -54,6 +54,7 @@ pub keeps_asked : (words : List (List ℕ)) (r : Request) (run : LiveRun) → re
 keeps_asked words r run e k = record {
   usage = λ none. absurd (not_both (request_of words) r none e);
   memory = λ one. ((r, e), k.memory one);
+  refused = k.refused;
   asked = λ q f. subst (λ (x : Request). (run.status ≡ 1) ⊎ LivePromises (program_of x) run) (same_of (request_of words) r q e f) k.runs;
   of_day = live_texts_legal;
   fronts = fronts_told;
@@ -79,6 +80,7 @@ pub keeps_none : (words : List (List ℕ)) (run : LiveRun) → request_of words 
 keeps_none words run e said = record {
   usage = λ none. said;
   memory = λ one. absurd (by said one);
+  refused = λ one. absurd (by said one);
   asked = λ r f. absurd (not_both (request_of words) r e f);
   of_day = live_texts_legal;
   fronts = fronts_told;
@@ -107,7 +109,7 @@ own_is n m e f own = let clash : true ≡ false = ap is_no_answer (sym e ∙ f) 
 
 -- a program whose answers have statuses of their own has a run of another status than want of memory
 pub runs_whole : (program : LiveProgram) (run : LiveRun) → ((bytes : List ℕ) → is_no_answer (program.answer bytes).status ≡ false) → LivePromises program run → RunsIfRoom program run
-runs_whole program run own promises = record { memory = λ one. absurd (by one promises.status); runs = inr promises }
+runs_whole program run own promises = record { memory = λ one. absurd (by one promises.status); refused = λ one. absurd (by one promises.status); runs = inr promises }
   where
     by : run.status ≡ 1 → ((run.status ≡ 4) ⊎ (run.status ≡ 5)) ⊎ WasAnswered program run → ⊥
     by one (inl (inl four)) = four_is run.status one four

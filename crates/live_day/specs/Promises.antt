@@ -1,6 +1,7 @@
 -- What the program promises of a run.
 use Rattle.std.specs.Prelude.{ℕ, ◌≡◌, ◌+◌, ◌≤◌, ◌⊎◌, ◌==◌, Bool, true, false, not, ◌&&◌, ◌||◌, bytes_eq, if◌then◌else◌, List, [], ◌∷◌, ◌++◌, length, filter, filter_map, codes, Option, Some, None}
 use Rattle.std.specs.List.{flat_map}
+use Rattle.refused_memory.specs.{WasRefused}
 use Rattle.outside_io.specs.Pieces.{HasPut, IsCutShort}
 use Rattle.batch_records.specs.Sound.{is_sound}
 use Rattle.batch_records.specs.declared.day.DayCode.{DayCode}
@@ -110,6 +111,8 @@ pub record KeepsPromises (words : List (List ℕ)) (run : LiveRun) : Type 0 wher
   pub usage : request_of words ≡ None → ((run.status ≡ 2) × HasPut run.port run.port_after usage_text) ⊎ ((run.status ≡ 5) × IsCutShort run.port run.port_after usage_text)
   -- memory was wanting before anything was read or written, or never
   pub memory : run.status ≡ 1 → ((r : Request) × (request_of words ≡ Some r)) × (run.port_after ≡ run.port)
+  -- and 1 has a cause: a request for memory was refused
+  pub refused : run.status ≡ 1 → WasRefused
   -- what is asked for is answered while the input comes
   pub asked : (r : Request) → request_of words ≡ Some r → (run.status ≡ 1) ⊎ LivePromises (program_of r) run
   -- the answer is of a legal journal of the day that the accepted records make, and no record is lost

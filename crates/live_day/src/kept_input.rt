@@ -3,7 +3,8 @@ ghost use Rattle.std.specs.Prelude.{◌≡◌, ◌≤◌, ◌+◌, ◌++◌, [],
 ghost use Rattle.program_answers.specs.Limits.{longest_input, longest_long_input};
 
 use program_answers::{MAX_INPUT, MAX_LONG_INPUT};
-use std::alloc::{AllocError, Global};
+use refused_memory::{Memory, with_capacity};
+use std::alloc::Global;
 
 // The lines of both headers, with their line ends.
 const HEADERS: usize = 35;
@@ -23,10 +24,10 @@ pub(crate) struct KeptInput {
 
 impl KeptInput {
     /// No bytes. An error says that memory was wanting; none is taken later.
-    pub(crate) fn with_room(alloc: Global) -> Result<KeptInput, AllocError>
+    pub(crate) fn with_room(alloc: Global) -> Result<KeptInput, Memory>
         ensures { IfOk result (λ kept. kept.bytes.items ≡ []) }
     {
-        let bytes = Vec::with_capacity(alloc, ROOM)?;
+        let bytes = with_capacity(alloc, ROOM)?;
         Ok(KeptInput { bytes })
     }
 

@@ -52,7 +52,7 @@ fn text_in(rt: &HostRuntime, file: File) -> Result<KeptText, u8> {
         }
         Err(ReadEnd::Fault) => Err(8),
         Err(ReadEnd::Size) => Err(9),
-        Err(ReadEnd::Memory) => Err(1),
+        Err(ReadEnd::Memory(_)) => Err(1),
     }
 }
 

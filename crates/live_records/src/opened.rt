@@ -2,6 +2,7 @@
 
 ghost use Rattle.std.specs.Prelude.{◌≡◌, ◌<◌, ◌≤◌, ◌+◌, ◌∷◌, ◌++◌, [], List, None, Some, IfOk, false, is_some, length, option_map};
 ghost use Rattle.std.specs.Option.{option_map_or};
+ghost use Rattle.refused_memory.specs.declared.lists.TheConstants.{MOST};
 ghost use Rattle.batch_records.specs.Flat.{FitsRow, body_with_entries, has_entries, with_entries};
 ghost use Rattle.batch_records.specs.Growing.{entries_of};
 ghost use Rattle.live_records.specs.OpenRecord.{entries_open, has_said, is_whole, with_open};
@@ -13,6 +14,7 @@ ghost use Rattle.batch_records.specs.declared.day.MessageRecord.{MessageRecord};
 use crate::kinds::is_batch_body;
 use batch_records::{Day, Entry, MessageRecord, RecordBody};
 use cash_amounts::Memory;
+use refused_memory::with_capacity;
 use std::alloc::Global;
 use std::marker::Model;
 
@@ -64,9 +66,10 @@ fn says(message: &MessageRecord, entries: usize) -> bool
 impl OpenBatch {
     /// None is open. There is room for so many entries; `Memory` says that there wasn't that much.
     pub fn with_room(alloc: Global, most: usize) -> Result<OpenBatch, Memory>
+        requires { most ≤ MOST }
         ensures { IfOk result (λ b. b ≡ record { batch = None; most = most }) }
     {
-        let entries = Vec::with_capacity(alloc, most)?;
+        let entries = with_capacity(alloc, most)?;
         Ok(OpenBatch {
             record: None,
             entries,

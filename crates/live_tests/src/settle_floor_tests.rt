@@ -16,7 +16,7 @@ ghost use Rattle.live_tests.specs.GrowingDays.{BringsMessage, BringsStop, IsFron
 
 use account_book::OneTill;
 use batch_records::{Day, DayRoom, Entry, MessageRecord, RecordBody, Reserve, Reserves, read_day};
-use cash_amounts::{MAX_ENTRIES_OF_DAY, MAX_MESSAGES};
+use cash_amounts::{MAX_ACCOUNTS, MAX_ENTRIES_OF_DAY, MAX_MESSAGES, MAX_SYSTEMS};
 use commit_journal::{Head, Journal, Move, Want};
 use period_calendar::MIDNIGHT;
 use rule_book::parts::{account_count, message_count};
@@ -463,12 +463,12 @@ fn setting_read(rt: &impl Abort, alloc: Global, input: &[u8]) -> Setting
 fn room_for(rt: &impl Abort, alloc: Global, whole: &Day) -> DayRoom
     ensures { length whole.now.stops ≤ result.stops }
 {
-    match DayRoom::take(
-        alloc,
-        whole.message_count(),
-        whole.entry_count(),
-        whole.stops().len(),
-    ) {
+    let (messages, entries) = (whole.message_count(), whole.entry_count());
+    let stops = whole.stops().len();
+    assert!(rt; messages <= MAX_MESSAGES);
+    assert!(rt; entries <= MAX_ENTRIES_OF_DAY);
+    assert!(rt; stops <= MAX_MESSAGES);
+    match DayRoom::take(alloc, messages, entries, stops) {
         Ok(room) => room,
         Err(_) => panic!(rt; "memory"),
     }
@@ -530,6 +530,8 @@ fn floor_of(rt: &impl Abort, alloc: Global, setting: &Setting) -> Floor
     let systems = setting.book.system_count() + 2;
     let messages = setting.day.most_messages().min(MAX_MESSAGES) as u32;
     let entries = setting.day.most_entries().min(MAX_ENTRIES_OF_DAY) as u32;
+    assert!(rt; accounts as usize <= MAX_ACCOUNTS);
+    assert!(rt; systems as usize <= MAX_SYSTEMS);
     match Floor::empty(alloc, accounts, systems, messages, entries) {
         Ok(floor) => floor,
         Err(_) => panic!(rt; "memory"),

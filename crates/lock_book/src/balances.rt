@@ -6,6 +6,7 @@ use crate::amounts::{less, more};
 use crate::name::HallName;
 use account_book::{Holdings, Till};
 use cash_amounts::{AccountNumber, Cents, Memory};
+use refused_memory::{push, with_capacity};
 use rule_book::Setting;
 use rule_book::parts::account_count;
 use std::alloc::Global;
@@ -33,9 +34,9 @@ impl Balances {
             ≡ map (λ r. r.opening) setting.now.book.accounts) }
     {
         let count = account_count(setting);
-        let mut held = Vec::with_capacity(alloc, count as usize)?;
+        let mut held = with_capacity(alloc, count as usize)?;
         for i in 0..count {
-            held.push(setting.book.opening(i + 1))?;
+            push(&mut held, setting.book.opening(i + 1))?;
         }
         Ok(Balances { held })
     }

@@ -10,6 +10,7 @@ use crate::balances::Balances;
 use crate::group::{Four, Part};
 use cash_amounts::{Cents, Memory};
 use journal_pass::{Pass, PassTable, Teller, open_table};
+use refused_memory::{push, with_capacity};
 use rule_book::Setting;
 use rule_book::parts::account_count;
 use settle_floor::Floor;
@@ -66,9 +67,9 @@ fn openings<const NUMBER: u32>(alloc: Global, setting: &Setting) -> Result<Vec<C
 {
     let first = first_of(NUMBER);
     let count = (account_count(setting) + 8 - first) / 8;
-    let mut balances = Vec::with_capacity(alloc, count as usize)?;
+    let mut balances = with_capacity(alloc, count as usize)?;
     for i in 0..count {
-        balances.push(setting.book.opening(i * 8 + first))?;
+        push(&mut balances, setting.book.opening(i * 8 + first))?;
     }
     Ok(balances)
 }

@@ -7,6 +7,7 @@ ghost use Rattle.message_names.specs.Stored.{linked};
 use crate::packing::{name_key, sender_key};
 use cash_amounts::{Memory, MsgId, Name};
 use first_of_key::FirstKeys;
+use refused_memory::with_capacity;
 use std::alloc::Global;
 use std::marker::Model;
 
@@ -56,7 +57,7 @@ impl MessageNames {
     {
         let senders = FirstKeys::with_room(alloc, most)?;
         let ids = FirstKeys::with_room(alloc, most)?;
-        let links = Vec::with_capacity(alloc, most as usize)?;
+        let links = with_capacity(alloc, most as usize)?;
         Ok(MessageNames {
             senders,
             ids,

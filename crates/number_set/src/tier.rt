@@ -6,7 +6,7 @@ ghost use Rattle.number_set.specs.Next.{IsNext};
 ghost use Rattle.number_set.specs.Tiers.{has_number, is_occupied};
 
 use crate::word;
-use cash_amounts::Memory;
+use refused_memory::{Memory, filled};
 use std::alloc::Global;
 
 /// A set of the numbers for which there is room.
@@ -112,7 +112,7 @@ impl<S: Members> Members for Tier<S> {
     fn with_room(alloc: Global, count: usize) -> Result<Self, Memory> {
         let words = count.div_ceil(64);
         let above = S::with_room(alloc, words)?;
-        let words = vec![in alloc; 0; words]?;
+        let words = filled(alloc, 0, words)?;
         Ok(Tier { words, above })
     }
 

@@ -1,12 +1,14 @@
 //! Ports: sinks that bytes can be read from, too.
-ghost use Rattle.std.specs.Prelude.{◌≡◌, ◌<◌, [], IfOk, length};
+ghost use Rattle.std.specs.Prelude.{◌≡◌, ◌<◌, [], IfOk, length, ◌≤◌};
+ghost use Rattle.refused_memory.specs.declared.lists.TheConstants.{MOST};
 ghost use Rattle.outside_io.specs.Memory.{AsksMemory, port_state};
 ghost use Rattle.outside_io.specs.Ports.{Asks};
 
 use crate::Failed;
 use crate::sink::{MemSink, Sink, StdSink};
 use crate::source::{Source, StdSource, fill, is_end};
-use std::alloc::{AllocError, Global};
+use refused_memory::{Memory, with_capacity};
+use std::alloc::Global;
 use std::io::{Read, Write};
 use std::marker::Model;
 
@@ -76,7 +78,8 @@ impl MemPort {
         fails: Vec<u64>,
         sink: MemSink,
         most: usize,
-    ) -> Result<MemPort, AllocError>
+    ) -> Result<MemPort, Memory>
+        requires { most ≤ MOST }
         ensures { IfOk result (λ port. port ≡ record {
           source = record {
             left = bytes.items;
@@ -90,7 +93,7 @@ impl MemPort {
           room = most;
         }) }
     {
-        let marks = Vec::with_capacity(alloc, most)?;
+        let marks = with_capacity(alloc, most)?;
         Ok(MemPort {
             bytes,
             at: 0,

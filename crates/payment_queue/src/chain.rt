@@ -1,11 +1,13 @@
 //! Chains of slots on bands. What stands after the beginning of a band, and after each slot, is kept in two lists.
 ghost use Rattle.std.specs.Prelude.{◌≡◌, ◌<◌, ◌≤◌, ◌+◌, ◌++◌, ◌^◌, None, length, replicate, vec_len, vec_capacity, IfOk};
+ghost use Rattle.refused_memory.specs.declared.lists.TheConstants.{MOST};
 ghost use Rattle.payment_queue.specs.Chains.{IsHooked, IsPut};
 ghost use Rattle.payment_queue.specs.Links.{IsLinkable};
 ghost use Rattle.payment_queue.specs.Linked.{IsBare, IsInside, step_of, SameSize};
 
 use crate::link::{Link, link_to, no_link};
-use std::alloc::{AllocError, Global};
+use refused_memory::{Memory, filled, with_capacity};
+use std::alloc::Global;
 
 /// For each slot the next one of its band, and for each band its first.
 #[derive(Drop)]
@@ -81,13 +83,14 @@ pub(crate) fn grow(chain: &mut Chain, by: u32)
 }
 
 // A chain of no slots, with nothing in it, and room for so many. `Err` says that there wasn't enough memory.
-pub(crate) fn empty_chain(alloc: Global, most: usize, bands: usize) -> Result<Chain, AllocError>
+pub(crate) fn empty_chain(alloc: Global, most: usize, bands: usize) -> Result<Chain, Memory>
+    requires { (most ≤ MOST) × (bands ≤ MOST) }
     ensures empty { IfOk result IsBare }
     ensures links { IfOk result (λ chain. length chain.links.items ≡ 0) }
     ensures ends { IfOk result (λ chain. length chain.ends.items ≡ bands) }
     ensures room { IfOk result (λ chain. vec_len chain.links + most ≤ vec_capacity chain.links) }
 {
-    let links = Vec::with_capacity(alloc, most)?;
-    let ends = vec![in alloc; no_link(); bands]?;
+    let links = with_capacity(alloc, most)?;
+    let ends = filled(alloc, no_link(), bands)?;
     Ok(Chain { links, ends })
 }

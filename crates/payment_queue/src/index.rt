@@ -1,6 +1,7 @@
 //! The index of rows: those of one account and priority in the order of their places. A row is named by its slot, its number
 //! in the list of rows.
-ghost use Rattle.std.specs.Prelude.{◌≡◌, ◌+◌, ◌-◌, ◌*◌, ◌^◌, ◌<◌, false, true, Some, None, length, slice_set, IfOk};
+ghost use Rattle.std.specs.Prelude.{◌≡◌, ◌+◌, ◌-◌, ◌*◌, ◌^◌, ◌<◌, false, true, Some, None, length, slice_set, IfOk, ◌≤◌};
+ghost use Rattle.refused_memory.specs.declared.lists.TheConstants.{MOST};
 ghost use Rattle.payment_queue.specs.Chains.{AreApart, IsChained, IsFirst};
 ghost use Rattle.payment_queue.specs.Linked.{step_of};
 ghost use Rattle.payment_queue.specs.Standing.{rank};
@@ -10,7 +11,8 @@ ghost use Rattle.payment_queue.specs.Indexed.{AreSound, IsEmpty, IsFree, IsGrown
 
 use crate::chain::{Chain, empty_chain, grow, hook, put, step};
 use crate::row::{Place, Priority, Row, is_earlier, rank};
-use std::alloc::{AllocError, Global};
+use refused_memory::Memory;
+use std::alloc::Global;
 
 /// From each slot at which a row stands to the next one of its account and priority, and to the one before.
 #[derive(Drop)]
@@ -20,7 +22,8 @@ pub(crate) struct Index {
 }
 
 /// An index of no slots, with nothing in it, and room for so many. `Err` says that there wasn't enough memory.
-pub(crate) fn empty_index(alloc: Global, most: usize, bands: usize) -> Result<Index, AllocError>
+pub(crate) fn empty_index(alloc: Global, most: usize, bands: usize) -> Result<Index, Memory>
+    requires { (most ≤ MOST) × (bands ≤ MOST) }
     ensures empty { IfOk result IsEmpty }
     ensures sized { IfOk result (IsSized 0) }
     ensures bands { IfOk result (λ index. length index.forward.ends.items ≡ bands) }

@@ -7,6 +7,7 @@ use crate::row::{Heads, Place, Priority, Row};
 use crate::rows::{find, first_before, first_free, free_more, head_item, push_rows};
 use cash_amounts::{AccountNumber, Memory};
 use growing_set::GrowingSet;
+use refused_memory::with_capacity;
 use rule_book::Item;
 use std::alloc::Global;
 use std::marker::Model;
@@ -42,7 +43,7 @@ impl Queue {
     pub fn empty(alloc: Global, accounts: u32, most: u32) -> Result<Queue, Memory>
         ensures { IfOk result (λ queue. queue ≡ empty accounts most) }
     {
-        let rows = Vec::with_capacity(alloc, most as usize)?;
+        let rows = with_capacity(alloc, most as usize)?;
         let free = GrowingSet::with_room(alloc, most)?;
         let index = empty_index(alloc, most as usize, 3 * accounts as usize + 3)?;
         Ok(Queue {

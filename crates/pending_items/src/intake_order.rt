@@ -4,6 +4,7 @@
 use crate::parts::or_zero;
 use cash_amounts::{Memory, MessageNumber};
 use day_facts::DayFacts;
+use refused_memory::with_capacity;
 use std::alloc::Global;
 
 // The message, after all whose In lines are before its own, as one number.
@@ -24,7 +25,7 @@ pub struct IntakeOrder {
 impl IntakeOrder {
     // Room for so many messages.
     pub fn with_room(alloc: Global, most: u32) -> Result<IntakeOrder, Memory> {
-        let keys = Vec::with_capacity(alloc, most as usize)?;
+        let keys = with_capacity(alloc, most as usize)?;
         Ok(IntakeOrder { keys })
     }
 

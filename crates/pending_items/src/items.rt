@@ -7,6 +7,7 @@ ghost use Rattle.live_order.specs.Longer.{longer};
 ghost use Rattle.machine.specs.Records.Messages.{entries};
 ghost use Rattle.pending_items.specs.Room.{HasRoom};
 ghost use Rattle.std.specs.Prelude.{◌≡◌, ◌≤◌, ◌+◌, ◌∷◌, [], ℕ, List, false, true, length, IfOk};
+ghost use Rattle.cash_amounts.specs.declared.limits.TheConstants.{MAX_ACCOUNTS, MAX_ENTRIES_OF_DAY, MAX_MESSAGES, MAX_SYSTEMS};
 ghost use Rattle.commit_journal.specs.Line.{Line, History};
 ghost use Rattle.machine.specs.Telling.History.{is_book, is_time};
 ghost use Rattle.machine.specs.Legal.{IsLegal};
@@ -24,10 +25,7 @@ use crate::ends::{end_arrives, first_ends, no_ends, renew_ending};
 use crate::intake_order::IntakeOrder;
 use crate::rows::ItemRows;
 use batch_records::RecordBody;
-use cash_amounts::{
-    AccountNumber, MAX_ACCOUNTS, MAX_ENTRIES_OF_DAY, MAX_MESSAGES, MAX_SYSTEMS, Memory,
-    MessageNumber,
-};
+use cash_amounts::{AccountNumber, Memory, MessageNumber};
 use commit_journal::{Head, Kind};
 use day_facts::{DayFacts, batch_named, takes_well};
 use rule_book::batches::is_debit;
@@ -212,7 +210,7 @@ impl PendingItems {
     }
 
     /// Of no messages and no lines, of any day of at most so many accounts and systems, with room for so many messages, with so many
-    /// entries in all. All memory that is needed is taken here, and `Memory` says that there wasn't that much, or that no day has so many.
+    /// entries in all. All memory that is needed is taken here, and `Memory` says that there wasn't that much.
     pub fn empty(
         alloc: Global,
         accounts: u32,
@@ -220,22 +218,14 @@ impl PendingItems {
         messages: u32,
         entries: u32,
     ) -> Result<PendingItems, Memory>
+        requires accounts { accounts ≤ MAX_ACCOUNTS }
+        requires systems { systems ≤ MAX_SYSTEMS }
+        requires messages { messages ≤ MAX_MESSAGES }
+        requires entries { entries ≤ MAX_ENTRIES_OF_DAY }
         ensures empty { (day : Day) → length day.accounts ≤ accounts → length day.systems ≤ systems
             → IfOk result (λ items. KeepsPending (setup day) [] items) }
         ensures room { IfOk result (λ items. HasRoom messages entries items) }
     {
-        if accounts as usize > MAX_ACCOUNTS {
-            return Err(Memory);
-        }
-        if systems as usize > MAX_SYSTEMS {
-            return Err(Memory);
-        }
-        if messages as usize > MAX_MESSAGES {
-            return Err(Memory);
-        }
-        if entries as usize > MAX_ENTRIES_OF_DAY {
-            return Err(Memory);
-        }
         let order = IntakeOrder::with_room(alloc, messages + 1)?;
         let rows = ItemRows::empty(alloc, accounts + 1, messages, messages + entries)?;
         let ends = no_ends(alloc, messages)?;

@@ -3,6 +3,7 @@ ghost use Rattle.std.specs.Prelude.{◌≡◌, ◌≤◌, ◌<◌, ◌^◌, suc,
 ghost use Rattle.pending_items.specs.Numbers.{is_item, number_count, number_in, start_in, starts_of};
 
 use cash_amounts::Memory;
+use refused_memory::push;
 use rule_book::parts::{entry_count, message_count};
 use rule_book::{Item, Setting};
 use std::alloc::Global;
@@ -15,7 +16,7 @@ pub fn new_starts(alloc: Global, setting: &Setting) -> Result<(Vec<u32>, u32), M
     let mut starts = Vec::new(alloc);
     let mut next = 1;
     for before in 0..message_count(setting) {
-        starts.push(next)?;
+        push(&mut starts, next)?;
         next += entry_count(setting, before + 1) + 1;
     }
     Ok((starts, next))

@@ -17,9 +17,10 @@ use cash_amounts::{AccountNumber, Memory, MessageNumber};
 use day_facts::DayFacts;
 use payment_queue::laws::foremost_is_first;
 use payment_queue::{Place, Priority, Queue};
+use refused_memory::{filled, with_capacity};
 use rule_book::parts::{account_count, entry_count, message_count};
 use rule_book::{Item, Setting};
-use std::alloc::{AllocError, Global};
+use std::alloc::Global;
 use std::marker::Model;
 
 // The rows of the pending items of a day.
@@ -63,10 +64,10 @@ impl Model for ItemRows {
 }
 
 // So many items without a slot.
-fn no_slots(alloc: Global, count: u32) -> Result<Vec<Slot>, AllocError>
+fn no_slots(alloc: Global, count: u32) -> Result<Vec<Slot>, Memory>
     ensures { IfOk result (λ slots. slots.items ≡ replicate count None) }
 {
-    vec![in alloc; no_slot(); count as usize]
+    filled(alloc, no_slot(), count as usize)
 }
 
 // So many items more without a slot. There is room for them.
@@ -119,8 +120,8 @@ impl ItemRows {
         ensures { IfOk result (λ rows. rows
             ≡ none_arrived accounts messages items) }
     {
-        let starts = Vec::with_capacity(alloc, messages as usize)?;
-        let mut slots = Vec::with_capacity(alloc, items as usize + 1)?;
+        let starts = with_capacity(alloc, messages as usize)?;
+        let mut slots = with_capacity(alloc, items as usize + 1)?;
         slots.push_reserved(no_slot());
         let mut queue = Queue::empty(alloc, accounts, items + 1)?;
         queue.grow(1);

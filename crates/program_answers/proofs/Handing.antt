@@ -8,6 +8,7 @@ use Rattle.outside_io.specs.Gathering.{gathering}
 use Rattle.outside_io.specs.Pieces.{HasPut, IsCutShort, SinkState}
 use Rattle.outside_io.proofs.GatheringLemmas.{cut_below, put_below, short_below}
 use Rattle.program_answers.specs.Answers.{Answer}
+use Rattle.refused_memory.specs.{WasRefused}
 use Rattle.program_answers.specs.Giving.{HandsOver, Says, SaysIfRoom, SaysOneIfRoom}
 use Rattle.program_answers.specs.Programs.{is_no_answer}
 use Rattle.program_answers.proofs.Statuses.{none_of, other}
@@ -46,22 +47,22 @@ module _ {S : Type 0} (state : S → SinkState) (first : GatheringSink S) (old o
 
   pub said_if_room_below : (mid last : GatheringSink S) (answer : Answer) (status end : ℕ) → held first ≡ [] → nat_eq answer.status 1 ≡ false → nat_eq answer.status 5 ≡ false →
       SaysIfRoom (gathering_state state) first mid answer status → through last ≡ through mid → HandsOver state (sink_below mid) (sink_below last) (held mid) status end →
-      (name ≡ through last → out ≡ sink_below last) → ((end ≡ 1) × (state out ≡ state old)) ⊎ Says (state old) (state out) answer end
+      (name ≡ through last → out ≡ sink_below last) → ((end ≡ 1) × (state out ≡ state old) × WasRefused) ⊎ Says (state old) (state out) answer end
   said_if_room_below mid last answer status end none not_one not_five (inl room) same over ends =
       let stays = over.none room.0 in
       let is : out ≡ old = ends (sym named ∙ sym (same ∙ ap (through {S = S}) room.1)) ∙ stays.1 ∙ ap (sink_below {S = S}) room.1 ∙ below in
-      inl (stays.0, ap state is)
+      inl (stays.0, ap state is, room.2)
   said_if_room_below mid last answer status end none not_one not_five (inr said) same over ends =
       inr (said_below mid last answer status end none not_one not_five said same over ends)
 
   -- one of some answers, or nothing
   pub said_one_below : (mid last : GatheringSink S) (Is : Answer → Type 0) (status end : ℕ) → held first ≡ [] → ((answer : Answer) → Is answer → is_no_answer answer.status ≡ false) →
       SaysOneIfRoom (gathering_state state) first mid Is status → through last ≡ through mid → HandsOver state (sink_below mid) (sink_below last) (held mid) status end →
-      (name ≡ through last → out ≡ sink_below last) → ((end ≡ 1) × (state out ≡ state old)) ⊎ ((answer : Answer) × Is answer × Says (state old) (state out) answer end)
+      (name ≡ through last → out ≡ sink_below last) → ((end ≡ 1) × (state out ≡ state old) × WasRefused) ⊎ ((answer : Answer) × Is answer × Says (state old) (state out) answer end)
   said_one_below mid last Is status end none own (inl room) same over ends =
       let stays = over.none room.0 in
       let is : out ≡ old = ends (sym named ∙ sym (same ∙ ap (through {S = S}) room.1)) ∙ stays.1 ∙ ap (sink_below {S = S}) room.1 ∙ below in
-      inl (stays.0, ap state is)
+      inl (stays.0, ap state is, room.2)
   said_one_below mid last Is status end none own (inr said) same over ends =
       let no = none_of said.0.status (own said.0 said.1) in
       inr (said.0, said.1, said_below mid last said.0 status end none no.0 no.3 said.2 same over ends)

@@ -6,6 +6,7 @@ use Rattle.std.specs.Borrow.{GName}
 use Rattle.outside_io.specs.Causes.{one_more}
 use Rattle.outside_io.specs.declared.gathering.GatheringSink.{GatheringSink}
 use Rattle.outside_io.specs.Gathered.{sink_below, through}
+use Rattle.refused_memory.specs.{WasRefused}
 use Rattle.outside_io.specs.Pieces.{SinkState, TakesAtMost, ToldOnce}
 use Rattle.program_answers.specs.Answers.{Answer}
 use Rattle.program_answers.specs.Giving.{Says}
@@ -68,6 +69,7 @@ module _ {Request : Type 0} (program : Program Request) (run : Run) where
       record {
         status = inl (ap is_no_answer e);
         memory = other _ 2 1 e refl;
+        refused = other _ 2 1 e refl;
         usage = λ h. (w, said.1);
         read_fault = other _ 2 4 e refl;
         write_fault = other _ 2 5 e refl;
@@ -85,6 +87,7 @@ module _ {Request : Type 0} (program : Program Request) (run : Run) where
       record {
         status = inl (ap is_no_answer e);
         memory = other _ 5 1 e refl;
+        refused = other _ 5 1 e refl;
         usage = other _ 5 2 e refl;
         read_fault = other _ 5 4 e refl;
         write_fault = λ h. (program.usage_text, inl (w, refl), said.1);
@@ -100,10 +103,11 @@ module _ {Request : Type 0} (program : Program Request) (run : Run) where
 
   -- ---- memory is wanting, or a read failed
 
-  promise-short : (r : Request) → Asks program run r → run.status ≡ 1 → program.RanShort run → (program.reads r ≡ false → ReadsNothing run) → (run.ends_after ≡ run.ends) ⊎ ToldOnce run.ends run.ends_after → run.sink_after.faults ≡ run.sink.faults → run.read_faults_after ≡ run.read_faults → Promises program run
-  promise-short r w e short unread told still kept = record {
+  promise-short : (r : Request) → Asks program run r → run.status ≡ 1 → WasRefused → program.RanShort run → (program.reads r ≡ false → ReadsNothing run) → (run.ends_after ≡ run.ends) ⊎ ToldOnce run.ends run.ends_after → run.sink_after.faults ≡ run.sink.faults → run.read_faults_after ≡ run.read_faults → Promises program run
+  promise-short r w e cause short unread told still kept = record {
     status = inl (ap is_no_answer e);
     memory = λ h. ((r, w), short);
+    refused = λ h. cause;
     usage = other _ 1 2 e refl;
     read_fault = other _ 1 4 e refl;
     write_fault = other _ 1 5 e refl;
@@ -117,8 +121,8 @@ module _ {Request : Type 0} (program : Program Request) (run : Run) where
     write_faults_stay = omega (arith, still);
   }
 
-  pub promise-memory : (r : Request) → Asks program run r → program.reads r ≡ true → run.status ≡ 1 → program.RanShort run → (run.ends_after ≡ run.ends) ⊎ ToldOnce run.ends run.ends_after → run.sink_after.faults ≡ run.sink.faults → run.read_faults_after ≡ run.read_faults → Promises program run
-  promise-memory r w reading e short = promise-short r w e short (reads_it r reading)
+  pub promise-memory : (r : Request) → Asks program run r → program.reads r ≡ true → run.status ≡ 1 → WasRefused → program.RanShort run → (run.ends_after ≡ run.ends) ⊎ ToldOnce run.ends run.ends_after → run.sink_after.faults ≡ run.sink.faults → run.read_faults_after ≡ run.read_faults → Promises program run
+  promise-memory r w reading e cause short = promise-short r w e cause short (reads_it r reading)
 
   pub promise-fault : (r : Request) → Asks program run r → program.reads r ≡ true → run.status ≡ 4 → TakesAtMost run.left run.left_after program.longest_input → run.ends_after ≡ run.ends → WritesNothing run → run.read_faults_after ≡ one_more run.read_faults → run.read_faults ≤ run.read_faults_after → Promises program run
   promise-fault r w reading e took untold nothing counted stay =
@@ -126,6 +130,7 @@ module _ {Request : Type 0} (program : Program Request) (run : Run) where
       record {
         status = inl (ap is_no_answer e);
         memory = other _ 4 1 e refl;
+        refused = other _ 4 1 e refl;
         usage = other _ 4 2 e refl;
         read_fault = λ h. ((r, w, reading), (took, nothing), counted);
         write_fault = other _ 4 5 e refl;
@@ -148,6 +153,7 @@ module _ {Request : Type 0} (program : Program Request) (run : Run) where
       record {
         status = inr (r, w, given);
         memory = other _ answer.status 1 said no.0;
+        refused = other _ answer.status 1 said no.0;
         usage = other _ answer.status 2 said no.1;
         read_fault = other _ answer.status 4 said no.2;
         write_fault = other _ answer.status 5 said no.3;
@@ -165,6 +171,7 @@ module _ {Request : Type 0} (program : Program Request) (run : Run) where
   promise-cut r bytes answer w source is e cut = record {
     status = inl (ap is_no_answer e);
     memory = other _ 5 1 e refl;
+    refused = other _ 5 1 e refl;
     usage = other _ 5 2 e refl;
     read_fault = other _ 5 4 e refl;
     write_fault = λ h. (answer.text, inr (r, w, answer, record { bytes = bytes; read = source.read; is = is }, refl), cut);
@@ -187,8 +194,8 @@ module _ {Request : Type 0} (program : Program Request) (run : Run) where
 
   -- one of the answers that are right, or nothing for want of memory
   promise-some : (r : Request) (bytes : List ℕ) → Asks program run r → Sourced r bytes → (WritesNothing run → program.RanShort run) → ((answer : Answer) → program.IsAnswer r bytes answer → is_no_answer answer.status ≡ false) →
-      ((run.status ≡ 1) × WritesNothing run) ⊎ ((answer : Answer) × program.IsAnswer r bytes answer × Says run.sink run.sink_after answer run.status) → Promises program run
-  promise-some r bytes w source short own (inl none) = promise-short r w none.0 (short none.1) source.unread source.told (ap (λ (s : SinkState). s.faults) none.1) source.kept
+      ((run.status ≡ 1) × WritesNothing run × WasRefused) ⊎ ((answer : Answer) × program.IsAnswer r bytes answer × Says run.sink run.sink_after answer run.status) → Promises program run
+  promise-some r bytes w source short own (inl none) = promise-short r w none.0 none.2 (short none.1) source.unread source.told (ap (λ (s : SinkState). s.faults) none.1) source.kept
   promise-some r bytes w source short own (inr said) = promise-given r bytes said.0 w source said.1 (own said.0 said.1) said.2
 
   took_few : (r : Request) (bytes : List ℕ) → HasTaken program run r bytes → (b : Bool) → program.reads r ≡ b → TakesAtMost run.left run.left_after program.longest_input
@@ -196,7 +203,7 @@ module _ {Request : Type 0} (program : Program Request) (run : Run) where
   took_few r bytes taken false idle = none_taken run.left run.left_after program.longest_input (taken.unread idle).left
 
   pub promise-taken : (r : Request) (bytes : List ℕ) → HasTaken program run r bytes → (TakesAtMost run.left run.left_after program.longest_input × WritesNothing run → program.RanShort run) → ((answer : Answer) → program.IsAnswer r bytes answer → is_no_answer answer.status ≡ false) →
-      ((run.status ≡ 1) × WritesNothing run) ⊎ ((answer : Answer) × program.IsAnswer r bytes answer × Says run.sink run.sink_after answer run.status) → Promises program run
+      ((run.status ≡ 1) × WritesNothing run × WasRefused) ⊎ ((answer : Answer) × program.IsAnswer r bytes answer × Says run.sink run.sink_after answer run.status) → Promises program run
   promise-taken r bytes taken short own said =
       promise-some r bytes taken.asks (taken_sourced r bytes taken) (λ still. short (took_few r bytes taken (program.reads r) refl, still)) own said
 

@@ -1,5 +1,6 @@
 -- How an answer is given: what a status and a sink say of it, for contracts.
 use Rattle.std.specs.Prelude.{ℕ, ◌≡◌, ◌⊎◌, List, Result, Ok, Err}
+use Rattle.refused_memory.specs.{WasRefused}
 use Rattle.outside_io.specs.Pieces.{HasPut, IsCutShort, SinkState}
 use Rattle.program_answers.specs.Answers.{Answer}
 
@@ -7,13 +8,13 @@ use Rattle.program_answers.specs.Answers.{Answer}
 abbrev pub Says : SinkState → SinkState → Answer → ℕ → Type 0
 Says old new answer status = ((status ≡ answer.status) × HasPut old new answer.text) ⊎ ((status ≡ 5) × IsCutShort old new answer.text)
 
--- or memory is wanting, and the sink is left as it is
+-- or a request for memory was refused, and the sink is left as it is
 abbrev pub SaysIfRoom : {S : Type 0} → (S → SinkState) → S → S → Answer → ℕ → Type 0
-SaysIfRoom state old new answer status = ((status ≡ 1) × (new ≡ old)) ⊎ Says (state old) (state new) answer status
+SaysIfRoom state old new answer status = ((status ≡ 1) × (new ≡ old) × WasRefused) ⊎ Says (state old) (state new) answer status
 
--- an answer of these is given, or memory is wanting, and the sink is left as it is
+-- an answer of these is given, or a request for memory was refused, and the sink is left as it is
 abbrev pub SaysOneIfRoom : {S : Type 0} → (S → SinkState) → S → S → (Answer → Type 0) → ℕ → Type 0
-SaysOneIfRoom state old new Is status = ((status ≡ 1) × (new ≡ old)) ⊎ ((answer : Answer) × Is answer × Says (state old) (state new) answer status)
+SaysOneIfRoom state old new Is status = ((status ≡ 1) × (new ≡ old) × WasRefused) ⊎ ((answer : Answer) × Is answer × Says (state old) (state new) answer status)
 
 -- The rest of an answer that is held is handed on to the sink below, unless a write failed before or nothing was written.
 -- The status is that of the answer, or 5 where the sink fails now.

@@ -1,5 +1,6 @@
 -- What a program is, and what it promises of a run.
 use Rattle.std.specs.Prelude.{ℕ, ◌≡◌, ◌≤◌, ◌⊎◌, Bool, true, false, ◌||◌, List, [], length, Option, Some, None, nat_eq}
+use Rattle.refused_memory.specs.{WasRefused}
 use Rattle.outside_io.specs.Causes.{Rose, one_more}
 use Rattle.outside_io.specs.Pieces.{TakesAtMost, ToldOnce}
 use Rattle.program_answers.specs.Answers.{Answer}
@@ -81,6 +82,8 @@ pub record Promises {Request : Type 0} (program : Program Request) (run : Run) :
   pub status : (is_no_answer run.status ≡ true) ⊎ ((r : Request) × Asks program run r × IsAnswered program run r)
   -- 1, 2, 4 and 5: when each comes, and what was read and written then. At 4 and 5 one call failed, and none after it.
   pub memory : run.status ≡ 1 → AsksSome program run × program.RanShort run
+  -- and 1 has a cause: a request for memory was refused
+  pub refused : run.status ≡ 1 → WasRefused
   pub usage : run.status ≡ 2 → IsNoRequest program run × HasWritten run program.usage_text
   pub read_fault : run.status ≡ 4 → AsksToRead program run × WroteNothing program.longest_input run × (run.read_faults_after ≡ one_more run.read_faults)
   pub write_fault : run.status ≡ 5 → (text : List ℕ) × IsDefined program run text × WasCutShort run text

@@ -126,7 +126,7 @@ pub fn take_request<A: Answering, R: Source, S: Sink>(
             Err(hand_over(status, gathering))
         }
         Err(ReadEnd::Fault) => Err(4),
-        Err(ReadEnd::Memory) => Err(1),
+        Err(ReadEnd::Memory(_)) => Err(1),
     }
 }
 

@@ -10,10 +10,11 @@ use cash_amounts::{AccountNumber, Memory, MessageNumber};
 use commit_journal::Move;
 use growing_set::GrowingSet;
 use number_set::NumberSet;
+use refused_memory::filled;
 use rule_book::Setting;
 use rule_book::batches::{debtor, debtor_number, goes_to, gross, technical_of};
 use rule_book::parts::entry_moves;
-use std::alloc::{AllocError, Global};
+use std::alloc::Global;
 use std::marker::Model;
 
 #[derive(Drop)]
@@ -39,15 +40,15 @@ impl Model for Found {
 }
 
 // So many accounts without a candidate.
-fn no_candidates(alloc: Global, count: u32) -> Result<Vec<Option<u32>>, AllocError>
+fn no_candidates(alloc: Global, count: u32) -> Result<Vec<Option<u32>>, Memory>
     ensures { IfOk result (λ candidates. candidates.items ≡ replicate count None) }
 {
-    vec![in alloc; None; count as usize]
+    filled(alloc, None, count as usize)
 }
 
 // So many hints that say nothing.
-fn no_hints(alloc: Global, count: u32) -> Result<Vec<u32>, AllocError> {
-    vec![in alloc; 0; count as usize]
+fn no_hints(alloc: Global, count: u32) -> Result<Vec<u32>, Memory> {
+    filled(alloc, 0, count as usize)
 }
 
 // Makes a number a member or none. The others stay.

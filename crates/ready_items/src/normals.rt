@@ -13,6 +13,7 @@ ghost use Rattle.ready_items.specs.Normals.{HavePayments, IsAmount, IsArrived, I
 use amount_forest::AmountForest;
 use cash_amounts::{AccountNumber, Memory, MessageNumber};
 use due_items::DueItems;
+use refused_memory::with_capacity;
 use rule_book::parts::{account_count, is_high, item_move, message_count};
 use rule_book::sorts::is_pay;
 use rule_book::{Item, Setting};
@@ -150,7 +151,7 @@ impl Normals {
         }) }
     {
         let amounts = AmountForest::with_room(alloc, accounts, messages)?;
-        let spots = Vec::with_capacity(alloc, messages as usize)?;
+        let spots = with_capacity(alloc, messages as usize)?;
         Ok(Normals {
             amounts,
             spots,

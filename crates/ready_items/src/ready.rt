@@ -1,5 +1,6 @@
 //! What is ready, kept line by line.
 ghost use Rattle.std.specs.Prelude.{ℕ, List, ◌≡◌, ◌∷◌, ◌+◌, ◌^◌, ◌<◌, ◌≤◌, [], true, false, Some, None, length, slice_set, IfOk, IfSome};
+ghost use Rattle.cash_amounts.specs.declared.limits.TheConstants.{MAX_ACCOUNTS, MAX_ENTRIES_OF_DAY, MAX_MESSAGES};
 ghost use Rattle.batch_records.specs.DayRecord.{Day};
 ghost use Rattle.batch_records.specs.declared.day.Message.{Message};
 ghost use Rattle.batch_records.specs.Sound.{is_sound};
@@ -26,9 +27,7 @@ use crate::found::{Found, no_numbers, set_member, set_number};
 use crate::normals::{Normals, is_normal, payer};
 use crate::placing::{by_itself, head_candidate};
 use crate::touching::{touch_all, touch_item, touch_moves};
-use cash_amounts::{
-    AccountNumber, MAX_ACCOUNTS, MAX_ENTRIES_OF_DAY, MAX_MESSAGES, Memory, MessageNumber,
-};
+use cash_amounts::{AccountNumber, Memory, MessageNumber};
 use commit_journal::Move;
 use day_facts::DayFacts;
 use due_items::DueItems;
@@ -159,26 +158,20 @@ impl ReadyItems {
     // ---- a day that goes on
 
     /// Of no messages and no lines, of any day of at most so many accounts, with room for so many messages, with so many entries in all.
-    /// All memory that is needed is taken here, and `Memory` says that there wasn't that much, or that no day has so many.
+    /// All memory that is needed is taken here, and `Memory` says that there wasn't that much.
     pub fn empty(
         alloc: Global,
         accounts: u32,
         messages: u32,
         entries: u32,
     ) -> Result<ReadyItems, Memory>
+        requires accounts { accounts ≤ MAX_ACCOUNTS }
+        requires messages { messages ≤ MAX_MESSAGES }
+        requires entries { entries ≤ MAX_ENTRIES_OF_DAY }
         ensures empty { (day : Day) → length day.accounts ≤ accounts
             → IfOk result (λ ready. KeepsReady (setup day) [] ready) }
         ensures room { IfOk result (λ ready. HasRoom messages entries ready) }
     {
-        if accounts as usize > MAX_ACCOUNTS {
-            return Err(Memory);
-        }
-        if messages as usize > MAX_MESSAGES {
-            return Err(Memory);
-        }
-        if entries as usize > MAX_ENTRIES_OF_DAY {
-            return Err(Memory);
-        }
         let touched = NumberSet::with_room(alloc, accounts + 1)?;
         let alone = no_numbers(alloc, 0, messages + entries)?;
         let normals = Normals::empty(alloc, accounts + 1, messages)?;

@@ -1,9 +1,10 @@
 //! Rows of items. Contracts see them as a list of lists, with the room that is left.
 ghost use Rattle.std.specs.Prelude.{◌≡◌, ◌+◌, ◌-◌, ◌<◌, ◌≤◌, ◌∷◌, ◌++◌, [], IfOk, OnOk, OnErr, drop, get_or, length, option_map, sum_by, take};
+ghost use Rattle.refused_memory.specs.declared.lists.TheConstants.{MOST};
 ghost use Rattle.row_list.specs.Cut.{RisesTo, cut};
 ghost use Rattle.row_list.specs.Rows.{begun, changed, item_at, pushed, row_at, with_item, with_room, without_last};
 
-use cash_amounts::Memory;
+use refused_memory::{Memory, push, with_capacity};
 use std::alloc::Global;
 use std::marker::Model;
 
@@ -74,10 +75,11 @@ impl<T: Drop> RowList<T> {
 
     /// No rows, with room for so many, and for so many items in all of them. `Memory` says that there wasn't that much.
     pub fn with_room(alloc: Global, rows: usize, items: usize) -> Result<RowList<T>, Memory>
+        requires { (rows ≤ MOST) × (items ≤ MOST) }
         ensures { IfOk result (λ list. list ≡ with_room rows items) }
     {
-        let ends = Vec::with_capacity(alloc, rows)?;
-        let items = Vec::with_capacity(alloc, items)?;
+        let ends = with_capacity(alloc, rows)?;
+        let items = with_capacity(alloc, items)?;
         Ok(RowList { ends, items })
     }
 
@@ -116,7 +118,7 @@ impl<T: Drop> RowList<T> {
         ensures rows { self.old.room_for_rows ≤ self.new.room_for_rows + 1 }
         ensures items { self.new.room_for_items ≡ self.old.room_for_items }
     {
-        self.ends.push(self.items.len())?;
+        push(&mut self.ends, self.items.len())?;
         Ok(())
     }
 
@@ -136,7 +138,7 @@ impl<T: Drop> RowList<T> {
         ensures rows { self.new.room_for_rows ≡ self.old.room_for_rows }
         ensures items { self.old.room_for_items ≤ self.new.room_for_items + 1 }
     {
-        self.items.push(item)?;
+        push(&mut self.items, item)?;
         let last = self.ends.len() - 1;
         self.ends[last] = self.items.len();
         Ok(())

@@ -25,6 +25,7 @@ use Rattle.settlement_laws.proofs.EachLaw.AllLaws.{all_laws}
 use Rattle.settlement_laws.proofs.EachLaw.SameOrder.{plain_migrated}
 use Rattle.settlement_laws.proofs.EachLaw.SameVersion.{same_legal}
 use Rattle.settlement_laws.proofs.DayEnd.PlainRuns.{plain_ends}
+use Rattle.refused_memory.specs.{WasRefused}
 use Rattle.outside_io.specs.Pieces.{SinkState}
 use Rattle.program_answers.specs.Answers.{refused}
 use Rattle.program_answers.specs.Giving.{Says, SaysOneIfRoom}
@@ -144,7 +145,7 @@ says_read state old new c bytes day rest status reading given count s = go s.sai
       one_of = one_of_day c bytes day s.journal rest reading given made;
     }
 
-    go : ((status ≡ 1) × (new ≡ old)) ⊎ Says (state old) (state new) (answer_of_day c day s.journal rest (record_count day)) status → SaysOneIfRoom state old new (IsInputAnswer c bytes) status
+    go : ((status ≡ 1) × (new ≡ old) × WasRefused) ⊎ Says (state old) (state new) (answer_of_day c day s.journal rest (record_count day)) status → SaysOneIfRoom state old new (IsInputAnswer c bytes) status
     go (inl none) = inl none
     go (inr (inl said)) =
         inr (answer_of_day c day s.journal rest (record_count day), is (s.made (other status (answer_of_day c day s.journal rest (record_count day)).status 1 said.0 (never_day 1 (refl, refl, refl) c day s.journal rest (record_count day)))), inl said)

@@ -1,6 +1,7 @@
 -- Answers that are written.
 use Rattle.std.proofs.Common.{◌≡◌, ◌+◌, ℕ, List, [], true, false, Result, refl, ap, sym, inl, inr, subst}
 use Rattle.std.specs.Prelude.{if◌then◌else◌}
+use Rattle.refused_memory.specs.{WasRefused}
 use Rattle.outside_io.specs.Pieces.{SinkState}
 use Rattle.outside_io.specs.Calls.{Puts}
 use Rattle.batch_records.specs.DayRecord.{Day}
@@ -29,8 +30,8 @@ says_same a b old new status e s = subst (λ x. Says old new x status) (sym e) s
 -- ---- the journal of a day, whichever was made
 
 -- memory was wanting
-pub says_nothing : {S : Type 0} (state : S → SinkState) (old new : S) (IsMade : History → Type 0) (answer : History → Answer) (status : ℕ) → status ≡ 1 → new ≡ old → SaysOfMade state old new IsMade answer status
-says_nothing state old new IsMade answer status e same = record { journal = []; made = λ more. absurd (more e); said = inl (e, same) }
+pub says_nothing : {S : Type 0} (state : S → SinkState) (old new : S) (IsMade : History → Type 0) (answer : History → Answer) (status : ℕ) → status ≡ 1 → new ≡ old → WasRefused → SaysOfMade state old new IsMade answer status
+says_nothing state old new IsMade answer status e same cause = record { journal = []; made = λ more. absurd (more e); said = inl (e, same, cause) }
 
 pub says_of : {S : Type 0} (state : S → SinkState) (old new : S) (IsMade : History → Type 0) (answer : History → Answer) (status : ℕ) (J : History) → IsMade J → SaysIfRoom state old new (answer J) status → SaysOfMade state old new IsMade answer status
 says_of state old new IsMade answer status J made said = record { journal = J; made = λ more. made; said = said }

@@ -58,17 +58,17 @@ pub(crate) fn settle_in(alloc: Global, setting: Setting) -> Result<Settled<OneTi
 {
     let till = match OneTill::open(alloc, &setting.book) {
         Ok(till) => till,
-        Err(_) => {
+        Err(memory) => {
             drop(setting);
-            return Err(Memory);
+            return Err(memory);
         }
     };
     match Floor::open(alloc, &setting) {
         Ok(floor) => Ok(run_out(setting, floor, till)),
-        Err(_) => {
+        Err(memory) => {
             drop(till);
             drop(setting);
-            Err(Memory)
+            Err(memory)
         }
     }
 }
@@ -88,9 +88,9 @@ pub fn settle(alloc: Global, day: Day) -> Result<Told, Memory>
     let settled = settle_in(alloc, setting)?;
     match StatusWalk::with_room(alloc, &settled.setting) {
         Ok(walk) => Ok(Told { settled, walk }),
-        Err(_) => {
+        Err(memory) => {
             drop(settled);
-            Err(Memory)
+            Err(memory)
         }
     }
 }

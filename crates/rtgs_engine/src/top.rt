@@ -218,7 +218,7 @@ fn answer_bytes<S: Sink>(alloc: Global, command: &Command, bytes: Vec<u8>, outpu
     match read_input(alloc, bytes) {
         Ok((day, rest)) => answer_day(alloc, command, day, rest, output),
         Err(DayFault::Record { number, code }) => refuse(number, code, output),
-        Err(DayFault::Memory) => 1,
+        Err(DayFault::Memory(_)) => 1,
     }
 }
 

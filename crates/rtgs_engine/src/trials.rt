@@ -97,14 +97,14 @@ fn open_trial(alloc: Global, trial: Trial) -> Result<OpenedTrial, Memory>
     match Lanes::build(alloc, &setting, trial.workers) {
         Ok(lanes) => match HallKit::make(alloc, setting) {
             Ok(kit) => Ok(OpenedTrial { lanes, kit }),
-            Err(_) => {
+            Err(memory) => {
                 drop(lanes);
-                Err(Memory)
+                Err(memory)
             }
         },
-        Err(_) => {
+        Err(memory) => {
             drop(setting);
-            Err(Memory)
+            Err(memory)
         }
     }
 }

@@ -49,14 +49,14 @@ fn open(alloc: Global, day: Day, workers: u32) -> Result<Opened, Memory>
     match Lanes::build(alloc, &setting, workers) {
         Ok(lanes) => match HallKit::make(alloc, setting) {
             Ok(kit) => Ok(Opened { lanes, kit }),
-            Err(_) => {
+            Err(memory) => {
                 drop(lanes);
-                Err(Memory)
+                Err(memory)
             }
         },
-        Err(_) => {
+        Err(memory) => {
             drop(setting);
-            Err(Memory)
+            Err(memory)
         }
     }
 }
@@ -168,6 +168,6 @@ pub(crate) fn work_bytes<R: Threads + Wait + Sync, G: Gate + Sync, S: Sink>(
     match read_input(alloc, bytes) {
         Ok((day, rest)) => work_alone(rt, gate, count, alloc, day, rest, output),
         Err(DayFault::Record { number, code }) => refuse(number, code, output),
-        Err(DayFault::Memory) => 1,
+        Err(DayFault::Memory(_)) => 1,
     }
 }

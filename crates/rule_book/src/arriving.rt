@@ -1,5 +1,6 @@
 //! A setting whose day grows, within room that was taken before.
 ghost use Rattle.std.specs.Prelude.{◌≡◌, ◌≤◌, ◌<◌, ◌+◌, ℕ, [], length, true, IfOk};
+ghost use Rattle.refused_memory.specs.declared.lists.TheConstants.{MOST};
 ghost use Rattle.batch_records.specs.Sound.{is_sound};
 ghost use Rattle.rule_book.specs.Coming.{LacksLast, last_entries};
 ghost use Rattle.rule_book.specs.Room.{DayHasRoom, FoundHasRoom, HasRoom, TablesHaveRoom};
@@ -74,6 +75,7 @@ impl SettingRoom {
         messages: u32,
         entries: u32,
     ) -> Result<SettingRoom, Memory>
+        requires { accounts ≤ MOST }
         ensures { IfOk result (λ room. room
             ≡ record { accounts = accounts; messages = messages; entries = entries }) }
     {

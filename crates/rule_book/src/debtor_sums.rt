@@ -17,6 +17,7 @@ use batch_records::Day;
 use cash_amounts::{AccountNumber, Memory, MessageNumber};
 use commit_journal::Move;
 use first_of_key::{FirstKeys, Key};
+use refused_memory::with_capacity;
 use std::alloc::Global;
 use std::marker::Model;
 
@@ -198,7 +199,7 @@ impl DebtorSums {
         ensures { IfOk result (λ debts. debts ≡ record { keys = []; sums = []; most = most }) }
     {
         let keys = FirstKeys::with_room(alloc, most)?;
-        let sums = Vec::with_capacity(alloc, most as usize)?;
+        let sums = with_capacity(alloc, most as usize)?;
         Ok(DebtorSums { keys, sums })
     }
 

@@ -1,5 +1,6 @@
 //! What each item of a day moves, found message by message.
 ghost use Rattle.std.specs.Prelude.{◌≡◌, ◌≤◌, ◌<◌, ◌+◌, ◌-◌, ◌++◌, ◌∷◌, true, None, [], List, IfOk, length, option_map, sum_by, unwrap_or};
+ghost use Rattle.refused_memory.specs.declared.lists.TheConstants.{MOST};
 ghost use Rattle.commit_journal.specs.declared.line.Move.{Move};
 ghost use Rattle.account_book.specs.Directory.{find_account};
 ghost use Rattle.batch_records.specs.Flat.{body_with_entries};
@@ -15,6 +16,7 @@ use account_book::Book;
 use batch_records::{Day, Entry, RecordBody};
 use cash_amounts::{Cents, EntryNumber, Memory, MessageNumber, Name};
 use commit_journal::Move;
+use refused_memory::with_capacity;
 use row_list::RowList;
 use std::alloc::Global;
 use std::marker::Model;
@@ -135,13 +137,14 @@ impl ItemMoves {
         messages: usize,
         entries: usize,
     ) -> Result<ItemMoves, Memory>
+        requires { (messages ≤ MOST) × (entries ≤ MOST) }
         ensures { IfOk result (λ moves. moves ≡ record {
           list = record { transfers = []; rows = [] };
           messages = messages;
           entries = entries;
         }) }
     {
-        let transfers = Vec::with_capacity(alloc, messages)?;
+        let transfers = with_capacity(alloc, messages)?;
         let rows = RowList::with_room(alloc, messages, entries)?;
         Ok(ItemMoves {
             transfers,

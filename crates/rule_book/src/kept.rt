@@ -1,10 +1,12 @@
 //! What the dedicated cash accounts of a day keep.
 ghost use Rattle.std.specs.Prelude.{◌≡◌, ◌-◌, ◌≤◌, Some, find, nat_eq, option_map, true, slice_get, length, IfOk};
+ghost use Rattle.refused_memory.specs.declared.lists.TheConstants.{MOST};
 ghost use Rattle.batch_records.specs.Sound.{is_sound};
 ghost use Rattle.machine.specs.Records.Reserves.{kept_high, kept_of, kept_urgent};
 
 use batch_records::{Day, Reserve};
 use cash_amounts::{Cents, Memory};
+use refused_memory::with_capacity;
 use std::alloc::Global;
 use std::marker::Model;
 
@@ -64,9 +66,10 @@ fn amounts_of(day: &Day, a: u32) -> (Cents, Cents)
 impl KeptRoom {
     /// Room for so many accounts. `Memory` says that there wasn't that much.
     pub fn take(alloc: Global, accounts: usize) -> Result<KeptRoom, Memory>
+        requires { accounts ≤ MOST }
         ensures { IfOk result (λ room. room ≡ accounts) }
     {
-        let items = Vec::with_capacity(alloc, accounts)?;
+        let items = with_capacity(alloc, accounts)?;
         Ok(KeptRoom {
             most: accounts,
             items,

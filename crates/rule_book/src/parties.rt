@@ -3,6 +3,7 @@ ghost use Rattle.std.specs.Prelude.{◌≡◌, ◌≤◌, ◌<◌, ◌+◌, ◌-
 ghost use Rattle.std.specs.List.{list_any};
 ghost use Rattle.std.specs.Ordering.{nat_cmp};
 ghost use Rattle.std.specs.List.Sorted.{IsSorted};
+ghost use Rattle.refused_memory.specs.declared.lists.TheConstants.{MOST};
 ghost use Rattle.batch_records.specs.Sound.{is_sound};
 ghost use Rattle.machine.specs.Records.Messages.{entries, entry_at, move_of};
 ghost use Rattle.machine.specs.Telling.Facts.{is_party};
@@ -17,6 +18,7 @@ use account_book::Book;
 use batch_records::Day;
 use cash_amounts::{AccountNumber, EntryNumber, MAX_ENTRIES, Memory, MessageNumber, Name};
 use commit_journal::Move;
+use refused_memory::with_capacity;
 use std::alloc::Global;
 use std::marker::Model;
 
@@ -277,12 +279,13 @@ fn arrive(
 impl PartiesRoom {
     // Room for so many accounts, and for so many entries of batches. `Memory` says that there wasn't that much.
     pub(crate) fn take(alloc: Global, accounts: usize, entries: u32) -> Result<PartiesRoom, Memory>
+        requires { accounts ≤ MOST }
         ensures { IfOk result (λ room. room ≡ record { accounts = accounts; most = 2 * entries }) }
     {
         let most = 2 * entries as usize;
-        let keys = Vec::with_capacity(alloc, most)?;
-        let own = Vec::with_capacity(alloc, most.min(2 * MAX_ENTRIES))?;
-        let numbers = Vec::with_capacity(alloc, accounts)?;
+        let keys = with_capacity(alloc, most)?;
+        let own = with_capacity(alloc, most.min(2 * MAX_ENTRIES))?;
+        let numbers = with_capacity(alloc, accounts)?;
         Ok(PartiesRoom {
             keys,
             own,

@@ -10,6 +10,7 @@ ghost use Rattle.rule_book.specs.Repeated.{AreRepeats, first_number, with_one};
 use batch_records::{Day, MessageRecord};
 use cash_amounts::{Memory, MsgId, Name};
 use message_names::MessageNames;
+use refused_memory::with_capacity;
 use std::alloc::Global;
 use std::marker::Model;
 
@@ -54,7 +55,7 @@ impl Repeats {
             repeats ≡ record { names = []; repeats = []; most = most }) }
     {
         let names = MessageNames::with_room(alloc, most)?;
-        let items = Vec::with_capacity(alloc, most as usize)?;
+        let items = with_capacity(alloc, most as usize)?;
         Ok(Repeats { names, items })
     }
 

@@ -1,5 +1,6 @@
 //! The accounts that the senders of a day's messages have as systems, found once.
-ghost use Rattle.std.specs.Prelude.{◌≡◌, ◌<◌, [], length, true, IfOk};
+ghost use Rattle.std.specs.Prelude.{◌≡◌, ◌<◌, [], length, true, IfOk, ◌≤◌};
+ghost use Rattle.refused_memory.specs.declared.lists.TheConstants.{MOST};
 ghost use Rattle.batch_records.specs.Sound.{is_sound};
 ghost use Rattle.machine.specs.Records.Messages.{procedure_of};
 ghost use Rattle.rule_book.specs.Senders.{with_sender};
@@ -10,6 +11,7 @@ use crate::parts::{message, sender};
 use account_book::Book;
 use batch_records::{Day, RecordBody};
 use cash_amounts::{Memory, Procedure};
+use refused_memory::with_capacity;
 use std::alloc::Global;
 use std::marker::Model;
 
@@ -73,9 +75,10 @@ pub(crate) fn accounts_of(day: &Day, book: &Book, n: u32) -> SystemAccounts
 impl SenderAccounts {
     // No messages, with room for so many.
     pub(crate) fn with_room(alloc: Global, most: usize) -> Result<SenderAccounts, Memory>
+        requires { most ≤ MOST }
         ensures { IfOk result (λ senders. senders ≡ record { accounts = []; most = most }) }
     {
-        let items = Vec::with_capacity(alloc, most)?;
+        let items = with_capacity(alloc, most)?;
         Ok(SenderAccounts { items })
     }
 

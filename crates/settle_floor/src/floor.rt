@@ -14,7 +14,7 @@ ghost use Rattle.machine.specs.Making.FirstReady.{first_ready};
 ghost use Rattle.settle_floor.specs.Floors.{AtWork, IsFor, IsEntered, IsAnswered, HasPlaces, HasSame, entries_left, messages_left};
 ghost use Rattle.settle_floor.specs.Room.{HasCome, IsOpen, up_to_stop};
 ghost use Rattle.settle_floor.specs.Taking.{IsNext};
-ghost use Rattle.cash_amounts.specs.declared.limits.TheConstants.{MAX_ACCOUNTS, MAX_ENTRIES_OF_DAY, MAX_MESSAGES};
+ghost use Rattle.cash_amounts.specs.declared.limits.TheConstants.{MAX_ACCOUNTS, MAX_ENTRIES_OF_DAY, MAX_MESSAGES, MAX_SYSTEMS};
 ghost use Rattle.batch_records.specs.DayRecord.{Day};
 ghost use Rattle.batch_records.specs.declared.day.Message.{Message};
 ghost use Rattle.machine.specs.Records.Messages.{entries};
@@ -30,7 +30,7 @@ use crate::judging::judge;
 use crate::ready::first_ready;
 use crate::sizes::{entries_in_all, messages_in_all};
 use account_book::{Holdings, Till};
-use cash_amounts::{MAX_ACCOUNTS, MAX_ENTRIES_OF_DAY, MAX_MESSAGES, Memory, MessageNumber};
+use cash_amounts::{Memory, MessageNumber};
 use commit_journal::{Journal, MAX_MOVES, MoveList, Want};
 use period_calendar::MIDNIGHT;
 use rule_book::parts::{account_count, message_count};
@@ -236,7 +236,7 @@ impl Floor {
 
     /// The floor of any day of at most so many accounts and systems, of which nothing but its setup has come, with room for so many
     /// messages, with so many entries in all, and for whatever lines and moves they can bring at most. All memory that the day can need
-    /// is taken here, and `Memory` says that there wasn't that much, or that no day has so many.
+    /// is taken here, and `Memory` says that there wasn't that much.
     pub fn empty(
         alloc: Global,
         accounts: u32,
@@ -244,21 +244,16 @@ impl Floor {
         messages: u32,
         entries: u32,
     ) -> Result<Floor, Memory>
+        requires accounts { accounts ≤ MAX_ACCOUNTS }
+        requires systems { systems ≤ MAX_SYSTEMS }
+        requires messages { messages ≤ MAX_MESSAGES }
+        requires entries { entries ≤ MAX_ENTRIES_OF_DAY }
         ensures journal { IfOk result (λ floor. floor.journal ≡ with_room
             (4 * messages + entries + accounts + (MIDNIGHT + 1))
             (messages + 2 * entries + accounts)) }
         ensures opened { (day : Day) → length day.accounts ≤ accounts → length day.systems ≤ systems
             → IfOk result (λ floor. IsOpen (setup day) messages entries floor) }
     {
-        if accounts as usize > MAX_ACCOUNTS {
-            return Err(Memory);
-        }
-        if messages as usize > MAX_MESSAGES {
-            return Err(Memory);
-        }
-        if entries as usize > MAX_ENTRIES_OF_DAY {
-            return Err(Memory);
-        }
         let moves = MoveList::with_room(alloc, LINE_ROOM)?;
         let lines = Indexed::empty(
             alloc,

@@ -1,5 +1,6 @@
 //! A journal with the index of what its lines tell.
 ghost use Rattle.std.specs.Prelude.{◌≡◌, ◌<◌, ◌≤◌, ◌^◌, ◌∷◌, [], ◌+◌, ℕ, List, Some, None, false, length, slice_set, IfOk, IfSome};
+ghost use Rattle.cash_amounts.specs.declared.limits.TheConstants.{MAX_ACCOUNTS, MAX_ENTRIES_OF_DAY, MAX_MESSAGES, MAX_SYSTEMS};
 ghost use Rattle.period_calendar.specs.declared.time.TheConstants.{MIDNIGHT};
 ghost use Rattle.batch_records.specs.DayRecord.{Day};
 ghost use Rattle.commit_journal.specs.Kept.{pushed, with_room};
@@ -49,6 +50,7 @@ struct Told {
 impl Told {
     // Of no messages and no lines, of any day of at most so many systems, with room for so many messages, with so many entries in all.
     fn empty(alloc: Global, systems: u32, messages: u32, entries: u32) -> Result<Told, Memory>
+        requires { messages + entries < 2 ^ 32 }
         ensures empty { (day : Day) → length day.systems ≤ systems
             → IfOk result (λ told. StandsFor (setup day) [] told.facts
             × KeepsStops (setup day) [] told.stops) }
@@ -78,6 +80,10 @@ impl Items {
         messages: u32,
         entries: u32,
     ) -> Result<Items, Memory>
+        requires accounts { accounts ≤ MAX_ACCOUNTS }
+        requires systems { systems ≤ MAX_SYSTEMS }
+        requires messages { messages ≤ MAX_MESSAGES }
+        requires entries { entries ≤ MAX_ENTRIES_OF_DAY }
         ensures empty { (day : Day) → length day.accounts ≤ accounts → length day.systems ≤ systems
             → IfOk result (λ items. KeepsPending (setup day) [] items.pending
             × KeepsDue (setup day) [] items.due × KeepsReady (setup day) [] items.ready) }
@@ -382,6 +388,10 @@ impl Indexed {
         most_lines: u32,
         most_moves: u32,
     ) -> Result<Indexed, Memory>
+        requires accounts { accounts ≤ MAX_ACCOUNTS }
+        requires systems { systems ≤ MAX_SYSTEMS }
+        requires messages { messages ≤ MAX_MESSAGES }
+        requires entries { entries ≤ MAX_ENTRIES_OF_DAY }
         ensures journal { IfOk result (λ lines. lines.journal ≡ with_room most_lines most_moves) }
         ensures index { (day : Day) → length day.accounts ≤ accounts → length day.systems ≤ systems
             → IfOk result (λ lines. IsIndex (setup day) [] lines.index) }
@@ -395,7 +405,7 @@ impl Indexed {
                 told,
                 items,
             }),
-            Err(_) => Err(Memory),
+            Err(memory) => Err(memory),
         }
     }
 

@@ -1,5 +1,6 @@
 //! A walk along a journal, which tells the parties of its lines.
-ghost use Rattle.std.specs.Prelude.{◌≡◌, ◌≤◌, ◌+◌, ◌-◌, ◌++◌, ◌∷◌, [], ℕ, List, length, IfOk, OnOk};
+ghost use Rattle.std.specs.Prelude.{◌≡◌, ◌≤◌, ◌<◌, ◌^◌, ◌+◌, ◌-◌, ◌++◌, ◌∷◌, [], ℕ, List, length, IfOk, OnOk};
+ghost use Rattle.cash_amounts.specs.declared.limits.TheConstants.{MAX_ACCOUNTS};
 ghost use Rattle.outside_io.specs.Calls.{Puts};
 ghost use Rattle.commit_journal.specs.Histories.{oldest};
 ghost use Rattle.batch_records.specs.DayRecord.{Day};
@@ -23,7 +24,7 @@ use crate::told::{
     put_rejections, put_settlement,
 };
 use batch_records::Day;
-use cash_amounts::{LinePlace, MAX_ACCOUNTS, Memory, MessageNumber};
+use cash_amounts::{LinePlace, Memory, MessageNumber};
 use commit_journal::{Head, Journal, Move};
 use day_facts::{DayFacts, note_at};
 use number_set::NumberSet;
@@ -226,7 +227,7 @@ impl StatusWalk {
 
     /// A walk along the lines of any day of at most so many accounts and systems, of which nothing but its setup has come, with room for
     /// so many messages, with so many entries in all. All memory that it can need is taken here, and `Memory` says that there wasn't that
-    /// much, or that no day has so many.
+    /// much.
     pub fn empty(
         alloc: Global,
         accounts: u32,
@@ -234,13 +235,12 @@ impl StatusWalk {
         messages: u32,
         entries: u32,
     ) -> Result<StatusWalk, Memory>
+        requires accounts { accounts ≤ MAX_ACCOUNTS }
+        requires room { messages + entries < 2 ^ 32 }
         ensures stands { (day : Day) → length day.accounts ≤ accounts → length day.systems ≤ systems
             → IfOk result (λ walk. Stands (setup day) [] walk) }
         ensures room { IfOk result (λ walk. HasRoom messages entries walk.facts) }
     {
-        if accounts as usize > MAX_ACCOUNTS {
-            return Err(Memory);
-        }
         let banks = NumberSet::with_room(alloc, accounts + 1)?;
         let facts = DayFacts::empty(alloc, systems, messages, entries)?;
         Ok(StatusWalk { facts, banks })

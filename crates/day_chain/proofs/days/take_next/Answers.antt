@@ -16,7 +16,7 @@ returns-in-Err-Record-clause-told g c = λ told stands.
     inr (inl (refused told (number, code), next_refused told c.args.bytes.now (number, code) (told_fault _ _ number code c.in-Err-Record.field-0-is c.in-Err-Record.ensures.answer), said))
 
 pub returns-clause-told : goal.returns-clause-told
-returns-clause-told g c = λ told stands. inl (refl, refl)
+returns-clause-told g c = λ told stands. inl (refl, refl, c.in-Err-Memory.field-0-0.cause)
 
 pub returns-in-Ok-clause-within : goal.returns-in-Ok-clause-within
 returns-in-Ok-clause-within g c = length_within _ _ _ c.take_day.ensures.length c.in-Ok.ensures.within

@@ -3,8 +3,8 @@ use Rattle.machine.specs.Orders.Order.{plain}
 use Rattle.day_chain.proofs.Going.{cut_day, whole_day}
 use Rattle.day_chain.proofs.days.tell_day.Goals as goal
 
-pub returns-in_default : goal.returns-in_default
-returns-in_default g c = λ told stands fine. inl (refl, refl)
+pub returns-in-Err : goal.returns-in-Err
+returns-in-Err g c = λ told stands fine. inl (refl, refl, c.in-Err.field-0.cause)
 
 pub put_part-requires : goal.put_part-requires
 put_part-requires g c =

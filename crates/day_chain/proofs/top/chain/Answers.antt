@@ -35,4 +35,4 @@ returns-in-Err-Fault g c =
 
 pub returns-in-Err-Memory : goal.returns-in-Err-Memory
 returns-in-Err-Memory g c =
-    promise-unread _ (no_words c.args.words.now _ c.len.ensures c.if-len-gt0.false) refl (c.in-Err-Memory.ensures.memory (ap Err c.in-Err-Memory.field-0-is)) c.in-Err-Memory.ensures.asked (ap g.S.Sink.state (left_below g.S.Sink.state c.over-gathering.result _ _ _ c.over-gathering.ensures.same_reference c.over-gathering.ensures.same (search))) (c.in-Err-Memory.ensures.kept (λ h. cc (sym (ap Err c.in-Err-Memory.field-0-is) ∙ h)))
+    promise-unread _ (no_words c.args.words.now _ c.len.ensures c.if-len-gt0.false) refl c.in-Err-Memory.field-0-0.cause (c.in-Err-Memory.ensures.memory _ (ap Err c.in-Err-Memory.field-0-is)) c.in-Err-Memory.ensures.asked (ap g.S.Sink.state (left_below g.S.Sink.state c.over-gathering.result _ _ _ c.over-gathering.ensures.same_reference c.over-gathering.ensures.same (search))) (c.in-Err-Memory.ensures.kept (λ h. cc (sym (ap Err c.in-Err-Memory.field-0-is) ∙ h)))

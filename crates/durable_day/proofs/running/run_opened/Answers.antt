@@ -22,4 +22,4 @@ returns-in-Err-Foreign g c = λ calls rest made.
 
 pub returns : goal.returns
 returns g c = λ calls rest made.
-    (unfailed calls _ _ c.args.setting.day rest c.args.disk c.in-Err-Memory.disk c.in-Err-Memory.field-0 made c.in-Err-Memory.field-0-is c.in-Err-Memory.ensures.opens, refl)
+    (unfailed calls _ _ c.args.setting.day rest c.args.disk c.in-Err-Memory.disk c.in-Err-Memory.field-0-1 c.in-Err-Memory.field-0 made c.in-Err-Memory.field-0-is c.in-Err-Memory.ensures.opens, refl, c.in-Err-Memory.field-0-1.cause)

@@ -5,7 +5,7 @@ use Rattle.kept_day.proofs.SureFacts.{none_kept, run_kept}
 use Rattle.kept_day.proofs.top.keep.Goals as goal
 
 pub returns-in-Err : goal.returns-in-Err
-returns-in-Err g c = none_kept _ c.requires
+returns-in-Err g c = none_kept _ c.requires c.in-Err.field-0.cause
 
 pub returns : goal.returns
 returns g c =

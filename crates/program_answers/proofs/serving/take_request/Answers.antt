@@ -46,5 +46,5 @@ returns-in-Err-Fault-clause-over g c =
 pub returns-clause-over : goal.returns-clause-over
 returns-clause-over g c =
     let wanting = ap Err c.in-Err-Memory.field-0-is in
-    let took = subst (TakesAtMost _ _) c.longest_input.ensures.limit (c.in-Err-Memory.ensures.memory wanting) in
-    promise-memory g.A.Answering.program _ c.in-Some.request (sym c.in-Some.ensures) (sym c.reads.ensures ∙ c.if-not-reads.false) refl (g.met.A.Answering.short _ (took, refl)) (inl c.in-Err-Memory.ensures.asked) refl (c.in-Err-Memory.ensures.kept (λ h. cc (sym wanting ∙ h)))
+    let took = subst (TakesAtMost _ _) c.longest_input.ensures.limit (c.in-Err-Memory.ensures.memory _ wanting) in
+    promise-memory g.A.Answering.program _ c.in-Some.request (sym c.in-Some.ensures) (sym c.reads.ensures ∙ c.if-not-reads.false) refl c.in-Err-Memory.field-0-0.cause (g.met.A.Answering.short _ (took, refl)) (inl c.in-Err-Memory.ensures.asked) refl (c.in-Err-Memory.ensures.kept (λ h. cc (sym wanting ∙ h)))

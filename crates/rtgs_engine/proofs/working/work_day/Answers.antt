@@ -10,4 +10,4 @@ returns-in-Ok g c =
     (subst (λ (day : Day). SaysOfMade {S = g.row.S.Denot} g.S.Sink.state c.args.output.now c.settle_opened.new.output (IsOfDay c.in-Ok.opened.lanes.workers day) (settled day) c.settle_opened.result) c.in-Ok.ensures.kit c.settle_opened.ensures)
 
 pub returns-in-Err : goal.returns-in-Err
-returns-in-Err g c = record { journal = []; made = λ other. absurd (other refl); said = inl (refl, refl) }
+returns-in-Err g c = record { journal = []; made = λ other. absurd (other refl); said = inl (refl, refl, c.in-Err.field-0.cause) }

@@ -10,7 +10,7 @@ use Rattle.pending_items.proofs.items.PendingItems.empty.Goals as goal
 pub returns-clause-empty : goal.returns-clause-empty
 returns-clause-empty c = λ day few_accounts few_systems.
     let items : ℕ = c.args.messages + c.args.entries in
-    let few = c.if-messages-gt-MAX_MESSAGES.false in
+    let few = c.requires.messages in
     record {
       rows = none_kept (setup day) (c.args.accounts + 1) c.args.messages items c.in_ok-rows.rows (omega (arith, few_accounts)) (c.in_ok-rows.ensures ∙ (λ i. record {
         starts = [];
