@@ -276,6 +276,7 @@ module _ {P L : Type 0} {sink : sinks.Ghosts P} {log : logs.Ghosts L} where
     day = 1;
     is = refl;
     asked = inl refl;
+    memory = λ one. refl;
     refused = λ one. cause;
     sure = λ left known k was written wrote bytes image. absurd (new_none old.story old.keeper k fresh.begins was);
     together = joined;
@@ -290,6 +291,7 @@ module _ {P L : Type 0} {sink : sinks.Ghosts P} {log : logs.Ghosts L} where
     day = day;
     is = is;
     asked = asked;
+    memory = λ one. (keeps.memory one).1;
     refused = keeps.refused;
     sure = λ left known. by asked left known;
     together = joined;

@@ -51,6 +51,8 @@ module _ {P L : Type 0} {sink : sinks.Ghosts P} {log : logs.Ghosts L} where
       pub is : status ≡ status_of day new.keeper.halt new.keeper.skip
       -- what the log has, and then what comes from below, is answered as by `run`
       pub asked : (day ≡ 1) ⊎ LivePromises (program_of Runs) (kept_run old new day)
+      -- at 1 nothing was read from the port that keeps, and nothing written to it
+      pub memory : day ≡ 1 → kept_state state new ≡ kept_state state old
       -- and 1 has a cause: a request for memory was refused
       pub refused : day ≡ 1 → WasRefused
       -- Whenever bytes were written, whatever a crash may leave then has a text that calls for all that was written.

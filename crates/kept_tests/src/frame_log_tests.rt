@@ -11,17 +11,17 @@ const PAYMENT: &[u8] = b"PAY;BANKA;P1;N;X1;Y1;60.00\n";
 const LIMIT: usize = 1_000_000;
 
 // The digests of the header, the setup and the payment, as another program computes them.
-const D0: [u8; 32] = [
+const OF_HEADER: [u8; 32] = [
     0x0b, 0x66, 0xe6, 0x10, 0x28, 0x20, 0x78, 0x1a, 0x6c, 0x85, 0x52, 0x58, 0x06, 0x26, 0xff, 0x6e,
     0x3e, 0x24, 0x4d, 0x23, 0xfe, 0x9d, 0x77, 0xfd, 0xdc, 0x8e, 0xc1, 0x2f, 0xb4, 0x21, 0x37, 0x2f,
 ];
 
-const D1: [u8; 32] = [
+const OF_SETUP: [u8; 32] = [
     0x9e, 0xdc, 0x85, 0x30, 0xaa, 0xff, 0x60, 0x44, 0x5f, 0x1a, 0x06, 0x75, 0x4a, 0x89, 0xb7, 0x73,
     0x18, 0x8a, 0x41, 0xc8, 0xd3, 0xcf, 0xe4, 0x3b, 0x95, 0xd1, 0xad, 0xf4, 0x5a, 0x22, 0x2c, 0x6d,
 ];
 
-const D2: [u8; 32] = [
+const OF_PAYMENT: [u8; 32] = [
     0x7c, 0x0d, 0x8e, 0xba, 0xe4, 0xb9, 0x91, 0xd1, 0xd1, 0x00, 0xfe, 0xc6, 0x14, 0x04, 0xe2, 0xf1,
     0x4f, 0x26, 0x96, 0x8d, 0x56, 0x1e, 0xc3, 0xde, 0x6c, 0xbc, 0x22, 0x97, 0x9c, 0x63, 0x29, 0x0b,
 ];
@@ -31,10 +31,10 @@ fn two_frames(rt: &HostRuntime) -> Result<Vec<u8>, Fail> {
     let mut bytes = Vec::new(rt.alloc());
     bytes.extend_from_slice(b"GAURVISK KEPT 1\n")?;
     bytes.extend_from_slice(&[1, 0, 0, 0, 0x3f])?;
-    bytes.extend_from_slice(D1.as_slice())?;
+    bytes.extend_from_slice(OF_SETUP.as_slice())?;
     bytes.extend_from_slice(SETUP)?;
     bytes.extend_from_slice(&[1, 0, 0, 0, 0x1b])?;
-    bytes.extend_from_slice(D2.as_slice())?;
+    bytes.extend_from_slice(OF_PAYMENT.as_slice())?;
     bytes.extend_from_slice(PAYMENT)?;
     bytes.push(0)?;
     Ok(bytes)
@@ -61,11 +61,11 @@ fn two_reads_are_kept_byte_by_byte(rt: HostRuntime) -> Result<(), Fail> {
     let disk = disk_of(&rt, Vec::new(rt.alloc()), 1000)?;
     let (mut log, text) = log_of(&rt, disk)?;
     assert_eq!(rt; text.len(), 0);
-    assert_eq!(rt; log.digest(), D0);
+    assert_eq!(rt; log.digest(), OF_HEADER);
     assert!(rt; log.append(SETUP).is_ok());
-    assert_eq!(rt; log.digest(), D1);
+    assert_eq!(rt; log.digest(), OF_SETUP);
     assert!(rt; log.append(PAYMENT).is_ok());
-    assert_eq!(rt; log.digest(), D2);
+    assert_eq!(rt; log.digest(), OF_PAYMENT);
     let disk = log.into_disk();
     assert_eq!(rt; disk.size(), 181);
     let expected = two_frames(&rt)?;
@@ -111,12 +111,12 @@ fn is_foreign(kept: Kept, number: u64) -> bool {
 
 #[test]
 fn files_tell_their_texts(rt: HostRuntime) -> Result<(), Fail> {
-    assert!(rt; is_text(told(&rt, 180, 0, 181)?, 90, D2, 180));
+    assert!(rt; is_text(told(&rt, 180, 0, 181)?, 90, OF_PAYMENT, 180));
     // The crash came while the gate of the payment was opened.
-    assert!(rt; is_text(told(&rt, 116, 0, 181)?, 63, D1, 116));
-    assert!(rt; is_text(told(&rt, 116, 7, 117)?, 63, D1, 116));
-    assert!(rt; is_text(told(&rt, 16, 0, 17)?, 0, D0, 16));
-    assert!(rt; is_text(told(&rt, 16, 255, 181)?, 0, D0, 16));
+    assert!(rt; is_text(told(&rt, 116, 0, 181)?, 63, OF_SETUP, 116));
+    assert!(rt; is_text(told(&rt, 116, 7, 117)?, 63, OF_SETUP, 116));
+    assert!(rt; is_text(told(&rt, 16, 0, 17)?, 0, OF_HEADER, 16));
+    assert!(rt; is_text(told(&rt, 16, 255, 181)?, 0, OF_HEADER, 16));
     Ok(())
 }
 
