@@ -1,7 +1,7 @@
 //! What is found out about the records of a setup once, when a book is built.
 ghost use Rattle.std.specs.Prelude.{◌≡◌, ◌<◌, ◌≤◌, ◌+◌, ◌^◌, ℕ, nat_eq, None, Some, length, map, vec_capacity, IfOk, if◌then◌else◌};
 ghost use Rattle.std.specs.Option.{option_or};
-ghost use Rattle.refused_memory.specs.declared.lists.TheConstants.{MOST};
+ghost use Rattle.refused_memory.specs.declared.maps.TheConstants.{MOST_ENTRIES};
 ghost use Rattle.indexmap.specs.IndexMap.{spare};
 ghost use Rattle.cash_amounts.specs.Kinds.{flag_of};
 ghost use Rattle.account_book.specs.Directory.{find_system, fund_account, is_fund_of, is_technical_of, technical_account};
@@ -22,7 +22,7 @@ pub(crate) struct Directory {
 
 impl Directory {
     fn with_room(alloc: Global, most: usize) -> Result<Directory, Memory>
-        requires { most ≤ MOST }
+        requires { most ≤ MOST_ENTRIES }
         ensures { IfOk result (IsFree most) }
     {
         let numbers = map_with_capacity(alloc, most)?;
@@ -134,7 +134,7 @@ impl DirectoryRoom {
         accounts: usize,
         systems: usize,
     ) -> Result<DirectoryRoom, Memory>
-        requires { (accounts ≤ MOST) × (systems ≤ MOST) }
+        requires { (accounts ≤ MOST_ENTRIES) × (systems ≤ MOST_ENTRIES) }
         ensures { IfOk result (AreFree accounts systems) }
     {
         let account_room = Directory::with_room(alloc, accounts)?;

@@ -1,6 +1,6 @@
 //! Room for a book, which is taken before its records are there.
 ghost use Rattle.std.specs.Prelude.{◌≡◌, IfOk, ◌≤◌};
-ghost use Rattle.refused_memory.specs.declared.lists.TheConstants.{MOST};
+ghost use Rattle.refused_memory.specs.declared.maps.TheConstants.{MOST_ENTRIES};
 
 use crate::directory::{DirectoryRoom, Roles};
 use cash_amounts::{AccountRecord, Memory, SystemRecord};
@@ -38,7 +38,7 @@ impl Model for BookRoom {
 impl BookRoom {
     /// Room for so many accounts and systems. `Memory` says that there wasn't that much.
     pub fn take(alloc: Global, accounts: usize, systems: usize) -> Result<BookRoom, Memory>
-        requires { (accounts ≤ MOST) × (systems ≤ MOST) }
+        requires { (accounts ≤ MOST_ENTRIES) × (systems ≤ MOST_ENTRIES) }
         ensures { IfOk result (λ room. room
             ≡ record { accounts = accounts; systems = systems }) }
     {

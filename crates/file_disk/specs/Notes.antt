@@ -1,14 +1,9 @@
 -- What is noted of a file: what it held when it was opened, and each call that may have changed it since.
-use Rattle.std.specs.Prelude.{ℕ, zero, suc, List, [], ◌∷◌, ◌++◌}
+use Rattle.std.specs.Prelude.{ℕ, zero, suc, List, [], ◌∷◌}
 use Rattle.disk_model.specs.Memory.{Past, Written, Synced}
-use Rattle.file_disk.specs.declared.ghost_text.GhostText.{GhostText, Nothing, More'}
+use Rattle.outside_io.specs.GhostTexts.{bytes_of}
 use Rattle.file_disk.specs.declared.record.Record.{Record, Noted'}
 use Rattle.file_disk.specs.declared.record.Record.TheVariants as records
-
--- the bytes of a text, in their order
-abbrev pub bytes_of : GhostText → List ℕ
-bytes_of Nothing = []
-bytes_of (More' marker before byte) = bytes_of before ++ byte ∷ []
 
 -- which call, what the clock showed after it, an offset, and bytes
 abbrev pub Note : Type 0

@@ -2,7 +2,6 @@
 #![tactic(auto)]
 
 mod file;
-mod ghost_text;
 mod opening;
 mod record;
 

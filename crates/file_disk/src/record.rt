@@ -2,7 +2,7 @@
 ghost use Rattle.std.specs.Prelude.{◌≡◌, ◌∷◌};
 ghost use Rattle.file_disk.specs.Notes.{notes_of};
 
-use crate::ghost_text::GhostText;
+use outside_io::GhostText;
 use std::snapshot::Snapshot;
 
 /// The calls of a file, the newest last. At run time it has no more than which came last.

@@ -12,7 +12,8 @@ use Rattle.kept_port.specs.Keepers.{handed_on, keeper_state}
 use Rattle.kept_port.specs.Logs.{Finds}
 use Rattle.kept_port.specs.New.{IsNew}
 use Rattle.kept_port.specs.Stories.{Flows, GrewFrom, IsSince, asked_in, first_of, head_of, moment_of}
-use Rattle.kept_port.specs.Texts.{bytes_of, waiting}
+use Rattle.outside_io.specs.GhostTexts.{bytes_of}
+use Rattle.kept_port.specs.Texts.{waiting}
 use Rattle.kept_port.specs.declared.keeper.Keeper.{Keeper}
 use Rattle.kept_port.specs.declared.log.Log as logs
 use Rattle.kept_port.specs.declared.port.KeptPort.{KeptPort}

@@ -6,7 +6,7 @@ use Rattle.outside_io.specs.declared.sink.Sink as sinks
 use Rattle.kept_port.specs.Kept.{kept_state}
 use Rattle.kept_port.specs.Keepers.{handed_on, keeper_state}
 use Rattle.kept_port.specs.New.{IsNew}
-use Rattle.kept_port.specs.Texts.{bytes_of}
+use Rattle.outside_io.specs.GhostTexts.{bytes_of}
 use Rattle.kept_port.specs.declared.keeper.Keeper.{Keeper}
 use Rattle.kept_port.specs.declared.log.Log as logs
 use Rattle.kept_port.specs.declared.port.KeptPort.{KeptPort}

@@ -8,7 +8,7 @@ use Rattle.std.proofs.KnownBytes.{Appends-nil, Appends-trans, Consumes-kept, Con
 use Rattle.std.specs.Io.KnownBytes.{Appends, Consumes, Keeps}
 use Rattle.outside_io.specs.Pieces.{SinkState}
 use Rattle.outside_io.specs.Ports.{Asks}
-use Rattle.kept_port.specs.Texts.{bytes_of}
+use Rattle.outside_io.specs.GhostTexts.{bytes_of}
 use Rattle.kept_port.specs.Keepers.{Grows, WritesBehind, handed_on, keeper_state}
 use Rattle.kept_port.specs.Stories.{Flows, GrewFrom, IsSince, first_of}
 use Rattle.kept_port.specs.declared.log.Log.{Ghosts}

@@ -2,7 +2,7 @@
 use Rattle.std.specs.Prelude.{ℕ, ◌≡◌, ◌<◌, ◌&&◌, List, [], ◌++◌, length, take, drop, Option, None, Some, Result, OnOk, OnErr, MatchResult}
 use Rattle.std.specs.Io.KnownBytes.{Appends, Consumes, Keeps}
 use Rattle.outside_io.specs.Pieces.{SinkState}
-use Rattle.kept_port.specs.Texts.{bytes_of}
+use Rattle.outside_io.specs.GhostTexts.{bytes_of}
 use Rattle.kept_port.specs.declared.log.Log.{Ghosts}
 use Rattle.kept_port.specs.declared.keeper.Keeper.{Keeper}
 

@@ -2,7 +2,7 @@
 use Rattle.std.specs.Prelude.{ℕ, ◌≡◌, List, [], ◌∷◌, ◌++◌, length, take, drop, None, Some}
 use Rattle.std.specs.Io.KnownBytes.{Appends, Consumes}
 use Rattle.outside_io.specs.Pieces.{Moment, SinkState}
-use Rattle.kept_port.specs.Texts.{bytes_of}
+use Rattle.outside_io.specs.GhostTexts.{bytes_of}
 use Rattle.kept_port.specs.Keepers.{handed_on, keeper_state}
 use Rattle.kept_port.specs.declared.log.Log.{Ghosts}
 use Rattle.kept_port.specs.declared.keeper.Keeper.{Keeper}

@@ -4,7 +4,7 @@ use Rattle.std.proofs.Props.{props}
 use mathlib.Core.HLevel.{Unit-prop}
 use Rattle.std.specs.Io.KnownBytes.{Appends, Consumes}
 use Rattle.outside_io.specs.Pieces.{SinkState}
-use Rattle.kept_port.specs.Texts.{bytes_of}
+use Rattle.outside_io.specs.GhostTexts.{bytes_of}
 use Rattle.kept_port.specs.Keepers.{handed_on, keeper_state}
 use Rattle.kept_port.specs.Stories.{Flows, GrewFrom, IsSince}
 use Rattle.kept_port.specs.declared.log.Log.{Ghosts}

@@ -4,11 +4,11 @@ ghost use Rattle.std.specs.Io.KnownBytes.{Consumes, Keeps, WriteAppends};
 ghost use Rattle.outside_io.specs.Calls.{StaysSure, TakesSome, WritePasses};
 ghost use Rattle.outside_io.specs.Causes.{CountsFaults, one_more};
 ghost use Rattle.outside_io.specs.Ports.{Asks};
-ghost use Rattle.kept_port.specs.Texts.{bytes_of, waiting};
+ghost use Rattle.outside_io.specs.GhostTexts.{bytes_of};
+ghost use Rattle.kept_port.specs.Texts.{waiting};
 
-use crate::ghost_text::GhostText;
 use crate::log::Log;
-use outside_io::{Failed, PIECE, Port};
+use outside_io::{Failed, GhostText, PIECE, Port};
 
 /// Why a port that keeps hands on nothing more.
 #[derive(Clone, Copy, Debug, PartialEq, Eq)]

@@ -1,13 +1,11 @@
 //! A port that keeps what it reads in a log before it hands it on.
 #![tactic(auto)]
 
-mod ghost_text;
 mod keeper;
 mod log;
 mod port;
 mod story;
 
-pub use ghost_text::GhostText;
 pub use keeper::{Halt, Keeper};
 pub use log::Log;
 pub use port::KeptPort;

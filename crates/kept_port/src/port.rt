@@ -26,7 +26,7 @@ pub struct KeptPort<P: Port, L: Log> {
 impl<P: Port, L: Log> KeptPort<P, L> {
     ghost use Rattle.kept_port.specs.Keepers.{handed_on, queued};
     ghost use Rattle.kept_port.specs.New.{IsNew};
-    ghost use Rattle.kept_port.specs.Texts.{bytes_of};
+    ghost use Rattle.outside_io.specs.GhostTexts.{bytes_of};
 
     /// A port that hands on what the log has, which is this text, and then what comes from below. Of what is written to it so many bytes
     /// were written before.

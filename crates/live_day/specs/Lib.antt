@@ -16,7 +16,6 @@ pub mod Listened
 pub mod Rooms
 pub mod Running
 pub mod Stages
-pub mod Ghosts
 pub mod Comparing
 pub mod ComparingState
 pub mod Beginnings

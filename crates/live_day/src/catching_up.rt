@@ -4,7 +4,7 @@ ghost use Rattle.outside_io.specs.Calls.{Puts};
 ghost use Rattle.program_answers.specs.LivePrograms.{TellsMore};
 ghost use Rattle.live_day.specs.Answers.{longest_input};
 ghost use Rattle.live_day.specs.Comparing.{beyond, differing_line};
-ghost use Rattle.live_day.specs.Ghosts.{bytes_of};
+ghost use Rattle.outside_io.specs.GhostTexts.{bytes_of};
 ghost use Rattle.live_day.specs.GoingOn.{HasGone};
 ghost use Rattle.live_day.specs.Promises.{Runs, program_of};
 ghost use Rattle.live_day.specs.Told.{told};

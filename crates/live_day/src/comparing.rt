@@ -3,10 +3,9 @@ ghost use Rattle.std.specs.Prelude.{◌≡◌, ℕ, ◌+◌, ◌<◌, ◌≤◌,
 ghost use Rattle.std.specs.Io.KnownBytes.{Appends};
 ghost use Rattle.std.specs.List.{starts_with};
 ghost use Rattle.live_day.specs.Comparing.{Appends-prop, beyond, common, differ, differing_line, lines_in, next_place};
-ghost use Rattle.live_day.specs.Ghosts.{bytes_of};
+ghost use Rattle.outside_io.specs.GhostTexts.{bytes_of};
 
-use crate::ghost_text::GhostText;
-use outside_io::{Failed, Sink};
+use outside_io::{Failed, GhostText, Sink};
 use std::snapshot::Snapshot;
 
 /// What clauses know of a sink that compares: the sink below, as it was at first, and all that was written.

@@ -5,7 +5,6 @@ mod beginning;
 mod catching_up;
 mod comparing;
 mod endings;
-mod ghost_text;
 mod hearer;
 mod hearing;
 mod kept_input;

@@ -9,8 +9,10 @@ mod records;
 mod tables;
 
 pub use command_line::words;
-pub use lists::{MOST, copied, extend_from_slice, filled, push, reserve, text_of, with_capacity};
-pub use maps::{insert, insert_last, map_with_capacity};
+pub use lists::{
+    LARGEST, MOST, copied, extend_from_slice, filled, push, reserve, text_of, with_capacity,
+};
+pub use maps::{MOST_ENTRIES, insert, insert_last, map_with_capacity};
 pub use memory::Memory;
 pub use records::read_record;
 pub use tables::table_of_words;

@@ -1,18 +1,23 @@
 //! Requests for the memory of a list.
 ghost use Rattle.std.specs.Prelude.{◌≡◌, ◌+◌, ◌≤◌, ◌<◌, [], ◌∷◌, ◌++◌, if◌then◌else◌, length, string_bytes, IfOk, IsOk, OnErr, OnOk, is_ok, replicate};
+ghost use Rattle.std.specs.Mem.{type_size};
 ghost use Rattle.std.specs.Vec.{vec_len, vec_capacity};
-ghost use Rattle.refused_memory.specs.declared.lists.TheConstants.{MOST};
+ghost use Rattle.refused_memory.specs.declared.lists.TheConstants.{LARGEST, MOST};
 
 use crate::Memory;
 use crate::memory::refused;
 use std::alloc::Global;
 
-/// The most items that are asked for at once.
+/// The most items that are asked for at once. So many of the largest take 2^46 bytes, and std refuses by itself, with no one asked, from 2^63 on.
 pub const MOST: usize = 1 << 34;
+
+/// The most bytes that one item takes.
+pub const LARGEST: usize = 1 << 12;
 
 /// An empty list with room for so many items.
 pub fn with_capacity<T>(alloc: Global, capacity: usize) -> Result<Vec<T>, Memory>
-    requires { capacity ≤ MOST }
+    requires many { capacity ≤ MOST }
+    requires large { type_size T.row ≤ LARGEST }
     ensures items { IfOk result (λ v. v.items ≡ []) }
     ensures len { IfOk result (λ v. vec_len v ≡ 0) }
     ensures capacity { IfOk result (λ v. capacity ≤ vec_capacity v) }
@@ -27,7 +32,8 @@ pub fn with_capacity<T>(alloc: Global, capacity: usize) -> Result<Vec<T>, Memory
 
 /// So many times the same item.
 pub fn filled<T: Copy>(alloc: Global, item: T, count: usize) -> Result<Vec<T>, Memory>
-    requires { count ≤ MOST }
+    requires many { count ≤ MOST }
+    requires large { type_size T.row ≤ LARGEST }
     ensures len { IfOk result (λ v. vec_len v ≡ count) }
     ensures items_if_clones_equal { IfOk result (λ v. ((y : T) → T.is_clone item y → y ≡ item)
         → v.items ≡ replicate count item) }
@@ -40,6 +46,7 @@ pub fn filled<T: Copy>(alloc: Global, item: T, count: usize) -> Result<Vec<T>, M
 
 /// A list of the same items.
 pub fn copied<T: Copy>(alloc: Global, items: &[T]) -> Result<Vec<T>, Memory>
+    requires { type_size T.row ≤ LARGEST }
     ensures len { IfOk result (λ v. vec_len v ≡ length items.now) }
     ensures items_if_clones_equal { IfOk result (λ v. ((x y : T) → T.is_clone x y → y ≡ x)
         → v.items ≡ items.now) }
@@ -52,7 +59,8 @@ pub fn copied<T: Copy>(alloc: Global, items: &[T]) -> Result<Vec<T>, Memory>
 
 /// Takes room for so many more items than the list has. Its items stay.
 pub fn reserve<T>(list: &mut Vec<T>, additional: usize) -> Result<(), Memory>
-    requires { additional ≤ MOST }
+    requires many { additional ≤ MOST }
+    requires large { type_size T.row ≤ LARGEST }
     ensures items { list.new.items ≡ list.old.items }
     ensures len { vec_len list.new ≡ vec_len list.old }
     ensures ok { OnOk result (vec_len list.new + additional ≤ vec_capacity list.new) }
@@ -69,6 +77,7 @@ pub fn reserve<T>(list: &mut Vec<T>, additional: usize) -> Result<(), Memory>
 
 /// Puts an item at the end. Where that finds no memory, the item is dropped and the list stays.
 pub fn push<T: Drop>(list: &mut Vec<T>, item: T) -> Result<(), Memory>
+    requires { type_size T.row ≤ LARGEST }
     ensures items { list.new.items ≡ (if is_ok result then list.old.items ++ item ∷ [] else list.old.items) }
     ensures len { vec_len list.new ≡ (if is_ok result then vec_len list.old + 1 else vec_len list.old) }
     ensures capacity { vec_capacity list.old ≤ vec_capacity list.new }
@@ -85,6 +94,7 @@ pub fn push<T: Drop>(list: &mut Vec<T>, item: T) -> Result<(), Memory>
 
 /// Puts copies of these items at the end. Where that finds no memory, the list stays.
 pub fn extend_from_slice<T: Copy>(list: &mut Vec<T>, more: &[T]) -> Result<(), Memory>
+    requires { type_size T.row ≤ LARGEST }
     ensures items { list.new.items ≡ (if is_ok result then list.old.items ++ more.now else list.old.items) }
     ensures len { vec_len list.new ≡ (if is_ok result then vec_len list.old + length more.now else vec_len list.old) }
     ensures capacity { vec_capacity list.old ≤ vec_capacity list.new }

@@ -2,7 +2,9 @@
 ghost use Rattle.std.specs.Prelude.{◌≡◌, ◌+◌, ◌≤◌, ◌<◌, if◌then◌else◌, is_some, IfOk, IsOk, OnErr, OnOk, None, Some};
 ghost use Rattle.std.specs.BTreeMap as tree;
 ghost use Rattle.indexmap.specs.IndexMap.{get, hasher_of, index_map_len, insert_entry, spare, IsEmpty, IsUnchanged, IsUnique, Updates};
-ghost use Rattle.refused_memory.specs.declared.lists.TheConstants.{MOST};
+ghost use Rattle.std.specs.Mem.{type_size};
+ghost use Rattle.refused_memory.specs.declared.lists.TheConstants.{LARGEST};
+ghost use Rattle.refused_memory.specs.declared.maps.TheConstants.{MOST_ENTRIES};
 
 use crate::Memory;
 use crate::memory::refused;
@@ -11,12 +13,16 @@ use std::alloc::Global;
 use std::collections::BTreeMap;
 use std::hash::Hash;
 
+/// The most entries that a map is asked for at once. A map has room for at most 9 * 2^28, and refuses more by itself, with no one asked.
+pub const MOST_ENTRIES: usize = 1 << 31;
+
 /// An empty map with room for so many entries.
 pub fn map_with_capacity<K: Eq + Hash, V>(
     alloc: Global,
     capacity: usize,
 ) -> Result<IndexMap<K, V>, Memory>
-    requires { capacity ≤ MOST }
+    requires many { capacity ≤ MOST_ENTRIES }
+    requires large { (type_size K.row ≤ LARGEST) × (type_size V.row ≤ LARGEST) }
     ensures empty { IfOk result IsEmpty }
     ensures len { IfOk result (λ m. index_map_len m ≡ 0) }
     ensures spare { IfOk result (λ m. capacity ≤ spare m) }
@@ -36,6 +42,7 @@ pub fn insert_last<K: Eq + Hash + Drop, V: Drop>(
     key: K,
     value: V,
 ) -> Result<Option<V>, Memory>
+    requires { (type_size K.row ≤ LARGEST) × (type_size V.row ≤ LARGEST) }
     ensures old { IfOk result (λ old. old ≡ get K.eq map.old key) }
     ensures updates { OnOk result (Updates K.eq map.old map.new key (Some value)) }
     ensures entries { OnOk result (map.new.entries ≡ insert_entry K.eq map.old.entries key value) }
@@ -59,6 +66,7 @@ pub fn insert<K: Ord + Drop, V: Drop>(
     key: K,
     value: V,
 ) -> Result<Option<V>, Memory>
+    requires { (type_size K.row ≤ LARGEST) × (type_size V.row ≤ LARGEST) }
     ensures old { IfOk result (λ old. old ≡ tree.get K.cmp map.old key) }
     ensures updates { OnOk result (tree.Updates K.cmp map.old map.new key (Some value)) }
     ensures entries { OnOk result (map.new.entries ≡ tree.insert_entry K.cmp map.old.entries key value) }

@@ -1,6 +1,7 @@
 //! Rows of items. Contracts see them as a list of lists, with the room that is left.
 ghost use Rattle.std.specs.Prelude.{◌≡◌, ◌+◌, ◌-◌, ◌<◌, ◌≤◌, ◌∷◌, ◌++◌, [], IfOk, OnOk, OnErr, drop, get_or, length, option_map, sum_by, take};
-ghost use Rattle.refused_memory.specs.declared.lists.TheConstants.{MOST};
+ghost use Rattle.std.specs.Mem.{type_size};
+ghost use Rattle.refused_memory.specs.declared.lists.TheConstants.{LARGEST, MOST};
 ghost use Rattle.row_list.specs.Cut.{RisesTo, cut};
 ghost use Rattle.row_list.specs.Rows.{begun, changed, item_at, pushed, row_at, with_item, with_room, without_last};
 
@@ -75,7 +76,8 @@ impl<T: Drop> RowList<T> {
 
     /// No rows, with room for so many, and for so many items in all of them. `Memory` says that there wasn't that much.
     pub fn with_room(alloc: Global, rows: usize, items: usize) -> Result<RowList<T>, Memory>
-        requires { (rows ≤ MOST) × (items ≤ MOST) }
+        requires many { (rows ≤ MOST) × (items ≤ MOST) }
+        requires large { type_size T.row ≤ LARGEST }
         ensures { IfOk result (λ list. list ≡ with_room rows items) }
     {
         let ends = with_capacity(alloc, rows)?;
@@ -132,7 +134,8 @@ impl<T: Drop> RowList<T> {
 
     /// Puts an item at the end of the last row. Where that finds no memory, the item is dropped and the rows stay.
     pub fn push(&mut self, item: T) -> Result<(), Memory>
-        requires { 0 < length self.old.rows }
+        requires begun { 0 < length self.old.rows }
+        requires large { type_size T.row ≤ LARGEST }
         ensures ok { OnOk result (self.new.rows ≡ with_item item self.old.rows) }
         ensures err { OnErr result (self.new.rows ≡ self.old.rows) }
         ensures rows { self.new.room_for_rows ≡ self.old.room_for_rows }

@@ -9,8 +9,8 @@ returns-then-not-is_last_batch-clause-ok c =
     let last : is_last_batch c.self.inside.records.items ≡ false = sym tested ∙ c.if-not-is_last_batch.true in
     rw (← c.self.view_is) (entry_lost c.args.entry c.self.inside.records.items c.self.inside.entries.rows c.self.invariant last)
 
-pub push-requires : goal.push-requires
-push-requires c =
+pub push-requires-clause-begun : goal.push-requires-clause-begun
+push-requires-clause-begun c =
     let tested : c.is_last_batch.result ≡ is_last_batch c.self.inside.records.items = c.is_last_batch.ensures ∙ ap is_last_batch c.as_slice.ensures.value in
     let last : is_last_batch c.self.inside.records.items ≡ true = sym tested ∙ c.if-not-is_last_batch.false in
     some_row c.self.inside.records.items c.self.inside.entries.rows c.self.invariant last

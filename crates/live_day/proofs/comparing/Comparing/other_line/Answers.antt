@@ -1,6 +1,6 @@
 use Rattle.std.proofs.Common.{◌∙◌, arith, sym}
 use Rattle.std.proofs.lemmas.List.{length-take-le}
-use Rattle.live_day.specs.Ghosts.{bytes_of}
+use Rattle.outside_io.specs.GhostTexts.{bytes_of}
 use Rattle.live_day.proofs.PlaceFacts.{common_inside, differing_at}
 use Rattle.live_day.proofs.comparing.Comparing.other_line.Goals as goal
 

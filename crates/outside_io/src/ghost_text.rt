@@ -1,6 +1,6 @@
 //! A text that clauses alone see.
 ghost use Rattle.std.specs.Prelude.{◌≡◌, ◌++◌, [], ◌∷◌};
-ghost use Rattle.kept_port.specs.Texts.{bytes_of};
+ghost use Rattle.outside_io.specs.GhostTexts.{bytes_of};
 
 use std::snapshot::Snapshot;
 
@@ -20,7 +20,7 @@ pub enum GhostText {
 
 impl GhostText {
     /// One byte more.
-    pub(crate) fn add(&mut self, byte: u8)
+    pub fn add(&mut self, byte: u8)
         ensures { bytes_of self.new ≡ bytes_of self.old ++ byte ∷ [] }
     {
         let before = Snapshot::of(&*self);
@@ -28,11 +28,20 @@ impl GhostText {
     }
 
     /// All bytes of a piece more.
-    pub(crate) fn add_all(&mut self, piece: &[u8])
+    pub fn add_all(&mut self, piece: &[u8])
         ensures { bytes_of self.new ≡ bytes_of self.old ++ piece.now }
     {
         for byte in piece {
             self.add(*byte);
         }
+    }
+
+    /// The bytes of a piece.
+    pub fn of(piece: &[u8]) -> GhostText
+        ensures { bytes_of result ≡ piece.now }
+    {
+        let mut text = GhostText::Nothing;
+        text.add_all(piece);
+        text
     }
 }

@@ -1,6 +1,0 @@
-use Rattle.std.proofs.Common.{◌≡◌, ◌++◌, take}
-use Rattle.kept_port.specs.Texts.{bytes_of}
-use Rattle.kept_port.proofs.ghost_text.GhostText.add_all.Given as goal
-
-abbrev pub invariant-loop-byte : goal.invariant-loop-byte
-invariant-loop-byte l = bytes_of l.self ≡ bytes_of l.initial.self ++ take l.byte-index l.piece
