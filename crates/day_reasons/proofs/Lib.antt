@@ -1,0 +1,6 @@
+mod Along
+mod Answering
+mod Judged
+mod Pending
+mod PutFacts
+mod Settling

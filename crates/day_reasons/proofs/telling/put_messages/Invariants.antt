@@ -1,0 +1,12 @@
+use Rattle.std.proofs.Common.{◌≡◌, length, take}
+use Rattle.std.specs.List.{flat_map, range_with_len}
+use Rattle.outside_io.specs.Pieces.{HasPut}
+use Rattle.day_reasons.specs.Desks.{clear}
+use Rattle.day_reasons.specs.Told.{message_text}
+use Rattle.day_reasons.proofs.telling.put_messages.Given as goal
+
+abbrev pub invariant-loop-before : goal.invariant-loop-before
+invariant-loop-before g l = record {
+  put : HasPut (g.S.Sink.state l.initial.sink) (g.S.Sink.state l.sink) (flat_map (message_text (g.D.Desk.day l.desk) (g.D.Desk.past l.desk)) (take l.before (range_with_len 1 (length (g.D.Desk.day l.desk).messages))));
+  moves : l.moves ≡ clear;
+}

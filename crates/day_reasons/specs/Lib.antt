@@ -1,0 +1,11 @@
+pub mod Desks
+pub mod Ends
+pub mod Laws
+pub mod Programs
+pub mod Promises
+pub mod Reasons
+pub mod Requests
+pub mod Told
+pub mod Waits
+pub mod Works
+pub mod Wrong
