@@ -9,8 +9,10 @@ import select
 import struct
 import termios
 
-# The programs by their names, and as words NAME=PATH the builds of them that are to be tried.
-RTGS, CHAIN, STORE, VIEW, PAGE, LIVE, GATE = NAMES = ("rtgs", "day_chain", "durable_day", "liquidity_view", "day_page", "live_day", "party_gate")
+# The programs by their names, as programs.txt has them; and those that a check calls by words of their own.
+with open(os.path.join(os.path.dirname(os.path.abspath(__file__)), "..", "..", "programs.txt"), encoding="ascii") as table:
+    NAMES = tuple(line.split()[0] for line in table if not line.startswith("#"))
+RTGS, CHAIN, STORE, VIEW, PAGE, LIVE, GATE = "rtgs", "day_chain", "durable_day", "liquidity_view", "day_page", "live_day", "party_gate"
 
 # A run hangs that has taken so many seconds of a processor, or fifteen times as many by the clock: a busy machine may leave it waiting.
 SECONDS, PATIENCE = 20, 15

@@ -1,7 +1,6 @@
 -- No pending item is passed over.
-use Rattle.std.proofs.Common.{◌≡◌, ◌∙◌, ℕ, Bool, true, false, not, ◌&&◌, ◌||◌, [], Option, Some, None, refl, sym, ap, subst, inl, inr, arith}
+use Rattle.std.proofs.Common.{◌≡◌, ◌∙◌, ℕ, Bool, true, false, not, ◌&&◌, ◌||◌, [], Option, Some, None, refl, sym, ap, subst, inl, inr}
 use Rattle.std.specs.Prelude.{if◌then◌else◌, is_none, is_some, nat_eq}
-use Rattle.std.proofs.lemmas.Grind.{common_steps}
 use Rattle.std.proofs.lemmas.Bool.{and_parts, or_cases, or_from, not-true, both_ways, eqb-true}
 use Rattle.batch_records.specs.DayRecord.{Day}
 use Rattle.batch_records.specs.declared.day.Entry.{Entry}
@@ -22,7 +21,7 @@ use Rattle.settlement_laws.proofs.Base.Induction.{legal_induction}
 use Rattle.settlement_laws.proofs.Base.PhaseLaws.{open_uncovered, open_unsettled}
 use Rattle.settlement_laws.proofs.Base.Places.{place-other}
 use Rattle.settlement_laws.proofs.DayEnd.LineBound.{bookable}
-use Rattle.day_reasons.specs.Waits.{is_done, is_unfinished, settling, settling_as, waiting_want}
+use Rattle.day_reasons.specs.Waits.{is_done, is_unfinished, settling, settling_as}
 use Rattle.day_reasons.specs.Laws.{PendingItemsWait}
 
 -- ---- its message is told of with its items
